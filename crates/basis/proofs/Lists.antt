@@ -1,0 +1,195 @@
+-- Laws of lists as buffers: parts, WORDs, and what is written over a buffer. Assumes nothing.
+use Prim.Native.Nat.{ℕ, zero, suc, _+_, _*_, _/_, _%_, _-_, _≤_, _<_, min}
+use native.Mathlib.Nat.{zero-add, add-zero, add-suc, suc-add}
+use native.Mathlib.Numerals.{add-one}
+use native.Mathlib.Decide.{decLe}
+use native.Mathlib.Omega.{arith}
+use mathlib.Core.Path.{_≡_, refl, sym, _∙_, ap, ap₂}
+use mathlib.Core.Bool.{Bool, true, false, _&&_, _||_, false≢true}
+use mathlib.Core.List.{List, [], _∷_, _++_, append-assoc}
+use lib.Dec.{eqb}
+use lib.ListN.{length, take, drop, getD, set, length-append, length-take, length-drop, length-set, take-append-drop, drop-of-length-le, replicate, List·getD-eq-default}
+use lib.Seq.{drop-cons, take-at, drop-at, drop-append-add, drop-drop, take-all, take-append-le, length-take-le, getD-drop, getD-take, take-add, take-length, set-append-left}
+use borrow.Author.Tests.{eqb-true, eq-eqb, ne-eqb}
+use Rattle.basis.specs.Choice.{oneOf}
+use Rattle.basis.specs.Bytes.{Bytes, wordAt, wordBytes, part, same, over, patched}
+use Rattle.basis.proofs.Choosing.{and-left, and-right, and-both}
+
+-- ---- the same list
+
+pub same-true : (xs ys : List ℕ) → same xs ys ≡ true → xs ≡ ys
+unfolding same
+same-true [] [] e = refl
+same-true [] (y ∷ ys) e = absurd (false≢true e)
+same-true (x ∷ xs) [] e = absurd (false≢true e)
+same-true (x ∷ xs) (y ∷ ys) e = ap₂ _∷_ (eqb-true x y (and-left (eqb x y) (same xs ys) e)) (same-true xs ys (and-right (eqb x y) (same xs ys) e))
+
+pub same-refl : (xs : List ℕ) → same xs xs ≡ true
+unfolding same
+same-refl [] = refl
+same-refl (x ∷ xs) = and-both (eq-eqb x x refl) (same-refl xs)
+
+pub same-eq : (xs ys : List ℕ) → xs ≡ ys → same xs ys ≡ true
+same-eq xs ys e = rw (← e) (same-refl xs)
+
+-- two lists by what is left of them from a place on
+pub same-later : (xs ys : List ℕ) (i : ℕ) → i < length xs → i < length ys → getD xs i 0 ≡ getD ys i 0 → same (drop i xs) (drop i ys) ≡ same (drop (i + 1) xs) (drop (i + 1) ys)
+unfolding same
+same-later xs ys i h k e = rw (drop-cons xs i 0, drop-cons ys i 0, eq-eqb (getD xs i 0) (getD ys i 0) e, add-one)
+
+pub same-differs : (xs ys : List ℕ) (i : ℕ) → i < length xs → i < length ys → (getD xs i 0 ≡ getD ys i 0 → ⊥) → same (drop i xs) (drop i ys) ≡ false
+unfolding same
+same-differs xs ys i h k e = rw (drop-cons xs i 0, drop-cons ys i 0, ne-eqb (getD xs i 0) (getD ys i 0) e)
+
+pub same-ended : (xs ys : List ℕ) (i : ℕ) → length xs ≤ i → length ys ≤ i → same (drop i xs) (drop i ys) ≡ true
+unfolding same
+same-ended xs ys i h k = rw (drop-of-length-le xs h, drop-of-length-le ys k)
+
+-- ---- parts
+
+pub length-part : (xs : List ℕ) (at n : ℕ) → length (part xs at n) ≡ n
+unfolding part
+length-part xs at zero = refl
+length-part xs at (suc n) = ap suc (length-part xs (suc at) n)
+
+pub part-within : (xs : List ℕ) (at n : ℕ) → at + n ≤ length xs → part xs at n ≡ take n (drop at xs)
+unfolding part
+part-within xs at zero h = refl
+part-within xs at (suc n) h =
+    let k : at < length xs = omega (arith, add-suc at n) in
+    rw (drop-cons xs at 0) (ap (λ (l : List ℕ). getD xs at 0 ∷ l) (part-within xs (suc at) n (omega (arith, add-suc at n, suc-add at n))))
+
+pub part-none : (xs : List ℕ) (at n : ℕ) → length xs ≤ at → part xs at n ≡ replicate n 0
+unfolding part
+part-none xs at zero h = refl
+part-none xs at (suc n) h =
+    let k : length xs ≤ suc at = omega arith in
+    ap₂ _∷_ (List·getD-eq-default xs 0 {n = at} h) (part-none xs (suc at) n k)
+
+-- two parts, one behind the other, and one element more
+pub part-add : (xs : List ℕ) (at n k : ℕ) → part xs at (n + k) ≡ part xs at n ++ part xs (at + n) k
+unfolding part
+part-add xs at zero k = rw (zero-add k, add-zero at)
+part-add xs at (suc n) k = rw (suc-add n k) (ap (λ (l : List ℕ). getD xs at 0 ∷ l) (part-add xs (suc at) n k ∙ rw (suc-add at n, add-suc at n)))
+
+pub part-more : (xs : List ℕ) (at n : ℕ) → part xs at (n + 1) ≡ part xs at n ++ (getD xs (at + n) 0 ∷ [])
+unfolding part
+part-more xs at n = part-add xs at n 1
+
+-- from a later place on
+pub part-drop : (k : ℕ) (xs : List ℕ) (at n : ℕ) → part (drop k xs) at n ≡ part xs (k + at) n
+unfolding part
+part-drop k xs at zero = refl
+part-drop k xs at (suc n) = ap₂ _∷_ (getD-drop k xs at 0) (part-drop k xs (suc at) n ∙ rw (add-suc k at))
+
+pub part-whole : (xs : List ℕ) → part xs 0 (length xs) ≡ xs
+part-whole xs = part-within xs 0 (length xs) (omega arith) ∙ take-length xs
+
+-- what is left from a place on is a part
+pub part-rest : (xs : List ℕ) (k : ℕ) → part xs k (length (drop k xs)) ≡ drop k xs
+part-rest xs k = ap (λ (at : ℕ). part xs at (length (drop k xs))) (sym (add-zero k)) ∙ sym (part-drop k xs 0 (length (drop k xs))) ∙ part-whole (drop k xs)
+
+-- a list that is a part of another from its start is the same as it where the lengths are
+pub same-part : (xs d : List ℕ) → xs ≡ part d 0 (length xs) → same xs d ≡ eqb (length xs) (length d)
+same-part xs d e = go (same xs d) refl
+  where
+    go : (b : Bool) → same xs d ≡ b → b ≡ eqb (length xs) (length d)
+    go true p = sym (eq-eqb (length xs) (length d) (ap length (same-true xs d p)))
+    go false p =
+        sym
+        (ne-eqb (length xs) (length d)
+        (λ q. false≢true (sym p ∙ same-eq xs d (e ∙ ap (part d 0) q ∙ part-whole d))))
+
+-- a list from a place on, or from its end
+pub drop-least : (xs : List ℕ) (k at : ℕ) → at ≡ min (length xs) k → drop at xs ≡ drop k xs
+drop-least xs k at e = go (decLe (length xs) k)
+  where
+    go : Dec (length xs ≤ k) → drop at xs ≡ drop k xs
+    go (yes h) =
+        let p : length xs ≤ at = omega arith in
+        drop-of-length-le xs p ∙ sym (drop-of-length-le xs h)
+    go (no h) =
+        let p : at ≡ k = omega arith in
+        rw p
+
+-- ---- WORDs
+
+module _ (xs : List ℕ) (at : ℕ) (h : Bytes xs) where
+  pub word-high : wordAt xs at / 256 ≡ getD xs at 0
+  unfolding Bytes
+  word-high =
+      let q : getD xs (at + 1) 0 < 256 = h (at + 1) in
+      omega arith
+
+  pub word-low : wordAt xs at % 256 ≡ getD xs (at + 1) 0
+  unfolding Bytes
+  word-low =
+      let q : getD xs (at + 1) 0 < 256 = h (at + 1) in
+      omega arith
+
+-- ---- what is written over a buffer
+
+pub patched-over : (p xs o : List ℕ) (at : ℕ) → length p ≡ at → patched at xs (over p o) ≡ over (p ++ xs) o
+unfolding patched over
+patched-over p xs o at e =
+    rw (take-at p (drop (length p) o) at e, ← e, drop-append-add p (drop (length p) o) (length xs), drop-drop (length xs) (length p) o, length-append p xs, append-assoc)
+
+pub patched-front : (xs o : List ℕ) → patched 0 xs o ≡ over xs o
+unfolding patched over
+patched-front xs o = rw zero-add
+
+-- a patch is a longer front
+pub patched-is-over : (at : ℕ) (xs o : List ℕ) → at ≤ length o → patched at xs o ≡ over (take at o ++ xs) o
+unfolding patched over
+patched-is-over at xs o h = rw (length-append, length-take-le at o h, append-assoc)
+
+-- a patch behind a patch
+pub patched-patched : (at next : ℕ) (xs ys o : List ℕ) → at ≤ length o → at + length xs ≡ next → patched next ys (patched at xs o) ≡ patched at (xs ++ ys) o
+patched-patched at next xs ys o h e =
+    let front : length (take at o ++ xs) ≡ next = simp length-append (omega (arith, length-take-le at o h)) in
+    ap (patched next ys) (patched-is-over at xs o h) ∙ patched-over (take at o ++ xs) ys o next front ∙ ap (λ (p : List ℕ). over p o) (append-assoc (take at o) xs ys)
+    ∙ sym (patched-is-over at (xs ++ ys) o h)
+
+-- a front over a front of the same length
+pub over-over : (p q o : List ℕ) → length p ≡ length q → over q (over p o) ≡ over q o
+unfolding over
+over-over p q o e = rw (← e, drop-at p (drop (length p) o) (length p))
+
+-- the buffer's own front changes nothing, and an element of a front is set in it
+pub over-take : (n : ℕ) (o : List ℕ) → n ≤ length o → over (take n o) o ≡ o
+unfolding over
+over-take n o h = rw (length-take-le n o h) (take-append-drop n o)
+
+pub set-over : (p o : List ℕ) (i x : ℕ) → i < length p → set (over p o) i x ≡ over (set p i x) o
+unfolding over
+set-over p o i x h = rw (length-set) (set-append-left p (drop (length p) o) i x h)
+
+pub length-patched : (at : ℕ) (xs o : List ℕ) → at + length xs ≤ length o → length (patched at xs o) ≡ length o
+unfolding patched
+length-patched at xs o h = simp (length-append, length-take, length-drop) (omega arith)
+
+pub length-over : (p o : List ℕ) → length p ≤ length o → length (over p o) ≡ length o
+unfolding over
+length-over p o h = simp (length-append, length-drop) (omega arith)
+
+pub take-over : (p o : List ℕ) → take (length p) (over p o) ≡ p
+unfolding over
+take-over p o = take-at p (drop (length p) o) (length p) refl
+
+-- the part of a list from a place to its end, as the code's `&s[at..]` has it
+pub rest-is : (at : ℕ) (o : List ℕ) → take (length o - at) (drop at o) ≡ drop at o
+rest-is at o = take-all (length o - at) (drop at o) (simp length-drop (omega arith))
+
+-- ---- one of a list, by what is left of it from a place on
+
+pub one-of-here : (b : ℕ) (l : List ℕ) (i : ℕ) → i < length l → getD l i 0 ≡ b → oneOf b (drop i l) ≡ true
+unfolding oneOf
+one-of-here b l i h e = rw (drop-cons l i 0, eq-eqb b (getD l i 0) (sym e))
+
+pub one-of-later : (b : ℕ) (l : List ℕ) (i : ℕ) → i < length l → (getD l i 0 ≡ b → ⊥) → oneOf b (drop i l) ≡ oneOf b (drop (i + 1) l)
+unfolding oneOf
+one-of-later b l i h e = rw (drop-cons l i 0, ne-eqb b (getD l i 0) (λ p. e (sym p)), add-one)
+
+pub one-of-none : (b : ℕ) (l : List ℕ) (i : ℕ) → length l ≤ i → oneOf b (drop i l) ≡ false
+unfolding oneOf
+one-of-none b l i h = rw (drop-of-length-le l h)

@@ -1,0 +1,55 @@
+// What the crates above share: the lesser of two numbers, bytes and WORDs at a place of a slice, and
+// the one way in which a buffer is written.
+ghost use mathlib.Core.Path.{_≡_};
+ghost use Prim.Native.Nat.{_+_, _≤_, min};
+ghost use lib.ListN.{length, getD};
+ghost use Rattle.basis.specs.Bytes.{wordAt, patched};
+ghost use Rattle.basis.specs.Choice.{oneOf};
+
+// The lesser of two lengths.
+pub fn least(a: usize, b: usize) -> usize
+    ensures { λ r. ⌜ r ≡ min a b ⌝ }
+{
+    if a < b { a } else { b }
+}
+
+// The byte at a place, 0 where there is none.
+pub fn byte_at(bytes: &[u8], at: usize) -> u8
+    ensures { λ r. ⌜ r ≡ getD (now (bytes .entry)) at 0 ⌝ }
+{
+    if at < bytes.len() { bytes[at] } else { 0 }
+}
+
+// The WORD at a place, high byte first; a byte that is not there counts as 0.
+pub fn word_at(bytes: &[u8], at: usize) -> u16
+    ensures { λ r. ⌜ r ≡ wordAt (now (bytes .entry)) at ⌝ }
+{
+    if bytes.len() <= at {
+        return 0;
+    }
+    let high = byte_at(bytes, at) as u16;
+    let low = byte_at(bytes, at + 1) as u16;
+    high * 256 + low
+}
+
+// Writes src into the buffer from a place on. The buffer has room for it.
+pub fn put(buffer: &mut [u8], at: usize, src: &[u8])
+    requires { ⌜ at + length (now src) ≤ length (now buffer) ⌝ }
+    ensures { λ _. ⌜ now (buffer .exit) ≡ patched at (now (src .entry)) (now (buffer .entry)) ⌝ }
+{
+    bytes::copy(src, &mut buffer[at..]);
+}
+
+// The byte is one of a list.
+pub fn one_of(b: u8, list: &[u8]) -> bool
+    ensures { λ r. ⌜ r ≡ oneOf b (now (list .entry)) ⌝ }
+{
+    let mut i = 0;
+    while i < list.len() {
+        if list[i] == b {
+            return true;
+        }
+        i += 1;
+    }
+    false
+}

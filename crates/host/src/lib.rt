@@ -1,0 +1,31 @@
+// The library for hosts in C and Rust (include/pcp.h): functions on numbers and byte slices alone.
+// None asks its caller to have checked anything.
+ghost use mathlib.Core.Path.{_≡_};
+ghost use mathlib.Core.Bool.{not};
+ghost use lib.Dec.{eqb};
+ghost use Rattle.checksum.specs.Check.{checkOf, messageCheck};
+ghost use Rattle.message.specs.Recognition.{recognition};
+
+// The check of any bytes.
+#[no_mangle]
+pub extern "C" fn pcp_check(bytes: &[u8]) -> u16
+    ensures { λ r. ⌜ r ≡ checkOf (now (bytes .entry)) ⌝ }
+{
+    checksum::check(bytes)
+}
+
+// The check of a message, its check field taken as 0000.
+#[no_mangle]
+pub extern "C" fn pcp_message_check(message: &[u8]) -> u16
+    ensures { λ r. ⌜ r ≡ messageCheck (now (message .entry)) ⌝ }
+{
+    checksum::message_check(message)
+}
+
+// Recognition: 0, or 1 to 7. A fact is no where its byte is 0, and yes otherwise.
+#[no_mangle]
+pub extern "C" fn pcp_recognise(supported: u8, pcp: u8, message: &[u8]) -> u8
+    ensures { λ r. ⌜ r ≡ recognition (not (eqb supported 0)) (not (eqb pcp 0)) (now (message .entry)) ⌝ }
+{
+    message::recognise(supported != 0, pcp != 0, message)
+}

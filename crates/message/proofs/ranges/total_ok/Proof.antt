@@ -1,0 +1,14 @@
+use Rattle.message.specs.Limits.{totalOk}
+use mathlib.Core.Path.{refl}
+use Rattle.message.proofs.ranges.total_ok.Statement.{statement}
+use Rattle.message.proofs.ranges.total_ok.Tie as tie
+use Rattle.message.proofs.ranges.total_ok.Reads as reads
+use Rattle.message.proofs.ranges.total_ok.Lts as lts
+
+-- src/ranges.rt:15:1
+returns : tie.Need-returns
+unfolding totalOk
+returns c = refl
+
+pub total-ok-spec : {M : Type 1} → statement M
+total-ok-spec = tie.close (tie.spec returns)

@@ -1,0 +1,37 @@
+-- 01, "Recognising a message": the numbers 1 to 7 in their order. A byte that is not there reads as 0, which no field before the check
+-- allows, so a message too short to hold a field fails at that field. Assumes nothing.
+use Prim.Native.Nat.{ℕ, _-_}
+use mathlib.Core.Bool.{Bool, _&&_}
+use mathlib.Core.List.{List, [], _∷_}
+use lib.Dec.{eqb, leb}
+use lib.ListN.{length, getD}
+use Rattle.basis.specs.Choice.{refusal}
+use Rattle.basis.specs.Bytes.{wordAt}
+use Rattle.checksum.specs.Check.{messageCheck}
+
+-- 3: the first two bytes
+unfoldable pub startHolds : List ℕ → Bool
+startHolds m = eqb (getD m 0 0) 0xFF && eqb (getD m 1 0) 0xFE
+
+-- 4: the version byte
+unfoldable pub versionByteHolds : List ℕ → Bool
+versionByteHolds m = eqb (getD m 2 0) 0x01
+
+-- 5: the code
+unfoldable pub codeHolds : List ℕ → Bool
+codeHolds m = leb 19 (getD m 3 0) && leb (getD m 3 0) 24
+
+-- 6: the check; 4 to 7 bytes fail here
+unfoldable pub checkHolds : List ℕ → Bool
+checkHolds m = leb 8 (length m) && eqb (wordAt m 4) (messageCheck m)
+
+-- 7: the data length
+unfoldable pub lengthHolds : List ℕ → Bool
+lengthHolds m = eqb (wordAt m 6) (length m - 8)
+
+-- 0 where the bytes are a PCP message, else the number of the first test that fails
+unfoldable pub recognition : (supported pcp : Bool) → List ℕ → ℕ
+recognition supported pcp m =
+    refusal
+    ((1, supported) ∷ (2, pcp) ∷ (3, startHolds m) ∷ (4, versionByteHolds m) ∷ (5, codeHolds m) ∷ (6, checkHolds m) ∷ (7, lengthHolds m)
+    ∷ [])

@@ -1,0 +1,68 @@
+// PCP messages: recognition, and the twelve messages read and written (01, "The message and its
+// check", "Recognising a message").
+mod parts;
+mod ranges;
+mod read;
+mod recognition;
+mod version;
+mod write;
+
+pub use ranges::{install_code, size_ok, total_ok};
+pub use read::{fragment_data, read_to_device, read_to_gateway, version_place};
+pub use recognition::recognise;
+pub use version::{good_version, same_version, version_at};
+pub use write::{write_to_device, write_to_gateway};
+
+// The four fields of an announcement, which name a package: 01's version, size, total and code.
+pub struct Fields {
+    pub version: [u8; 16],
+    pub size: u16,
+    pub total: u16,
+    pub code: u16,
+}
+
+impl Fields {
+    // The limits of the size of a fragment, and of the number of fragments.
+    pub const SIZE_MIN: u16 = 32;
+    pub const SIZE_MAX: u16 = 500;
+    pub const TOTAL_MAX: u16 = 65535;
+}
+
+// A message toward the device ("head" in 01). An enum holds no array: the version text of an
+// announcement and the data of a fragment stand beside it.
+pub enum ToDevice {
+    Refused(u8),
+    Query,
+    Announce { size: u16, total: u16, code: u16 },
+    Fragment { result: u8, index: u16 },
+    DownloadReply(u8),
+    Execute,
+    ResultReply(u8),
+}
+
+impl ToDevice {
+    // The least buffer of the gateway, which sends these: its longest message is a full fragment.
+    pub const ROOM: usize = 11 + Fields::SIZE_MAX as usize;
+}
+
+// A message toward the gateway, with its version text beside it.
+pub enum ToGateway {
+    Refused(u8),
+    QueryReply(u8),
+    AnnounceReply(u8),
+    FragmentRequest(u16),
+    DownloadReport(u8),
+    ExecuteReply(u8),
+    ResultReport(u8),
+}
+
+impl ToGateway {
+    // The least buffer of the device, which sends these.
+    pub const ROOM: usize = 26;
+}
+
+// What a writer answers: 0 and the length of the message, or the number of the refusal and 0.
+pub struct Written {
+    pub number: u8,
+    pub length: usize,
+}

@@ -1,0 +1,497 @@
+/* Compares the library, through its header, with a second implementation that
+   is written here from 01 and shares no code with it, on published, valid,
+   damaged and random messages.  The inputs are the same in every run. */
+#define _DEFAULT_SOURCE /* for MAP_ANONYMOUS */
+#include "pcp.h"
+
+#include <stdio.h>
+#include <stdlib.h>
+#include <string.h>
+#include <sys/mman.h>
+
+enum {
+    LONGEST = 8 << 20,    /* bytes of the longest input */
+    LONGEST_DATA = 65535, /* the most that a length field can say */
+    GUARD = 1 << 16,      /* a whole number of pages */
+    SHOWN = 5,            /* differences printed */
+    SHOWN_BYTES = 64,     /* of an input that differs */
+    ANY = -1              /* no number is known beforehand */
+};
+
+static uint8_t message[LONGEST]; /* the input at work */
+static uint8_t *guard;           /* the first byte that cannot be read */
+static unsigned long compared, different;
+
+/* The second implementation: 01, "The message and its check". */
+
+static uint16_t table[256];
+
+static void fill_table(void)
+{
+    for (uint32_t i = 0; i < 256; i++) {
+        uint32_t entry = i * 256;
+
+        for (int times = 0; times < 8; times++) {
+            entry *= 2;
+            if (entry >= 65536)
+                entry = (entry - 65536) ^ 0x1021;
+        }
+        table[i] = (uint16_t)entry;
+    }
+}
+
+static uint16_t run(uint16_t reg, const uint8_t *bytes, size_t length)
+{
+    for (size_t i = 0; i < length; i++)
+        reg = (uint16_t)(reg / 256 ^ table[(reg ^ bytes[i]) % 256]);
+    return reg;
+}
+
+static uint16_t own_check(const uint8_t *bytes, size_t length)
+{
+    return run(0, bytes, length);
+}
+
+static size_t at_most(size_t length, size_t most)
+{
+    return length < most ? length : most;
+}
+
+static uint16_t own_message_check(const uint8_t *bytes, size_t length)
+{
+    static const uint8_t zeros[2] = {0, 0};
+    size_t before = at_most(length, 4), field = at_most(length - before, 2);
+    uint16_t reg = run(run(0, bytes, before), zeros, field);
+
+    return run(reg, bytes + before + field, length - before - field);
+}
+
+static unsigned word(const uint8_t *at)
+{
+    return at[0] * 256u + at[1];
+}
+
+/* 01, "Recognising a message". */
+static unsigned own_recognise(unsigned supported, unsigned pcp,
+                              const uint8_t *bytes, size_t length)
+{
+    if (supported == 0)
+        return 1;
+    if (pcp == 0)
+        return 2;
+    if (length < 2 || word(bytes) != 0xFFFE)
+        return 3;
+    if (length < 3 || bytes[2] != 1)
+        return 4;
+    if (length < 4 || bytes[3] < 19 || bytes[3] > 24)
+        return 5;
+    if (length < 8 || word(bytes + 4) != own_message_check(bytes, length))
+        return 6;
+    return word(bytes + 6) == length - 8 ? 0 : 7;
+}
+
+/* Comparing. */
+
+static void expect(const char *what, unsigned expected, unsigned got,
+                   const uint8_t *bytes, size_t length)
+{
+    if (expected == got)
+        return;
+    if (different++ >= SHOWN)
+        return;
+    printf("%s: %X, not %X, of %lu bytes ", what, got, expected,
+           (unsigned long)length);
+    for (size_t i = 0; i < at_most(length, SHOWN_BYTES); i++)
+        printf("%02X", bytes[i]);
+    puts(length > SHOWN_BYTES ? ".." : "");
+}
+
+/* The bytes stand right before memory that cannot be read, so that a read past
+   their end stops the program.  No bytes are lent to the header's functions as
+   NULL, and to the archive's as a place that cannot be read. */
+static void compare_facts(uint8_t supported, uint8_t pcp, const uint8_t *bytes,
+                          size_t length, int must)
+{
+    uint8_t *lent = guard - length;
+    const uint8_t *lent_or_null = length == 0 ? NULL : lent;
+    unsigned check = own_check(bytes, length);
+    unsigned message_check = own_message_check(bytes, length);
+    unsigned number = own_recognise(supported, pcp, bytes, length);
+
+    memcpy(lent, bytes, length);
+    expect("pcp_check", check, pcp_check(lent, length), bytes, length);
+    expect("pcp_check_of_bytes", check,
+           pcp_check_of_bytes(lent_or_null, length), bytes, length);
+    expect("pcp_message_check", message_check, pcp_message_check(lent, length),
+           bytes, length);
+    expect("pcp_check_of_message", message_check,
+           pcp_check_of_message(lent_or_null, length), bytes, length);
+    expect("pcp_recognise", number, pcp_recognise(supported, pcp, lent, length),
+           bytes, length);
+    expect("pcp_recognise_message", number,
+           pcp_recognise_message(supported, pcp, lent_or_null, length), bytes,
+           length);
+    expect("bytes written", 0, memcmp(lent, bytes, length) != 0, bytes, length);
+    if (must != ANY)
+        expect("this test's recognition", (unsigned)must, number, bytes, length);
+    compared++;
+}
+
+/* The same of the first bytes of the message at work, with both facts yes. */
+static void compare(size_t length, int must)
+{
+    compare_facts(1, 1, message, length, must);
+}
+
+/* Making messages. */
+
+static uint32_t below(uint32_t bound)
+{
+    static uint64_t state = 20240901;
+
+    state ^= state << 13; /* xorshift64 */
+    state ^= state >> 7;
+    state ^= state << 17;
+    return (uint32_t)(state >> 32) % bound;
+}
+
+static void fill_random(size_t from, size_t to)
+{
+    for (size_t i = from; i < to; i++)
+        message[i] = (uint8_t)below(256);
+}
+
+/* Writes the check, as far as there is room for it. */
+static void seal(size_t length)
+{
+    uint16_t check = own_message_check(message, length);
+
+    if (length > 4)
+        message[4] = (uint8_t)(check / 256);
+    if (length > 5)
+        message[5] = (uint8_t)(check % 256);
+}
+
+static void set_length_field(size_t data)
+{
+    message[6] = (uint8_t)(data / 256);
+    message[7] = (uint8_t)(data % 256);
+}
+
+/* Returns the length of the message. */
+static size_t make(uint8_t code, size_t data)
+{
+    size_t length = data + 8;
+
+    message[0] = 0xFF;
+    message[1] = 0xFE;
+    message[2] = 1;
+    message[3] = code;
+    set_length_field(data);
+    fill_random(8, length);
+    seal(length);
+    return length;
+}
+
+static size_t make_from_hex(const char *hex)
+{
+    size_t length = strlen(hex) / 2;
+
+    for (size_t i = 0; i < length; i++) {
+        char digits[3] = {hex[2 * i], hex[2 * i + 1], 0};
+
+        message[i] = (uint8_t)strtoul(digits, NULL, 16);
+    }
+    return length;
+}
+
+/* The inputs. */
+
+/* Values that 01 and the sources print. */
+static void try_printed_checks(void)
+{
+    static const struct {
+        const char *hex;
+        unsigned check;
+    } printed[] = {
+        {"", 0x0000},       {"FFFE011300000000", 0x4C9A},
+        {"00", 0x0000},     {"01", 0x1021},
+        {"89", 0x00A1},     {"FF", 0x1EF0},
+        {"1755", 0xA189}, /* brings the register to A189 */
+        {"175500", 0x0000},
+    };
+
+    for (size_t i = 0; i < sizeof printed / sizeof printed[0]; i++) {
+        size_t length = make_from_hex(printed[i].hex);
+
+        expect("printed check", printed[i].check,
+               pcp_check_of_bytes(message, length), message, length);
+        compare(length, ANY);
+    }
+}
+
+/* Every whole message that sources 000, 001 and 003 print. */
+static void try_printed_messages(void)
+{
+    static const struct {
+        const char *hex;
+        unsigned check;
+        int number;
+    } printed[] = {
+        {"FFFE01134C9A0000", 0x4C9A, 0},
+        {"FFFE01138DE300110056302E39000000000000000000000000", 0x8DE3, 0},
+        {"FFFE01137AB300110056312E30000000000000000000000000", 0x7AB3, 0},
+        {"FFFE011402F7001656312E3000000000000000000000000001F400011234", 0x02F7,
+         0},
+        {"FFFE01141019001656312E300000000000000000000000000100013D6534", 0x1019,
+         0},
+        {"FFFE0114D768000100", 0xD768, 0},
+        {"FFFE01155618001256312E300000000000000000000000000000", 0x5618, 0},
+        {"FFFE0115E107001300000048454C4C4F2C20496F5420534F544121", 0xE107, 0},
+        {"FFFE0116850E000100", 0x850E, 0},
+        {"FFFE0117CF900000", 0xCF90, 0},
+        {"FFFE0117B725000100", 0xB725, 0},
+        {"FFFE0118C7D200110056312E30000000000000000000000000", 0xC7D2, 0},
+        {"FFFE0118AFA1000100", 0xAFA1, 0},
+        /* the misprint of 000, and the message as it should be */
+        {"FFFE011402F7001656312E3000000000000000000000000001F400010000", 0x3AE6,
+         6},
+        {"FFFE01143AE6001656312E3000000000000000000000000001F400010000", 0x3AE6,
+         0},
+    };
+
+    for (size_t i = 0; i < sizeof printed / sizeof printed[0]; i++) {
+        size_t length = make_from_hex(printed[i].hex);
+
+        expect("printed message check", printed[i].check,
+               pcp_check_of_message(message, length), message, length);
+        compare(length, printed[i].number);
+    }
+}
+
+/* Byte `at` of a message of this length, damaged and put back. */
+static void compare_damaged(size_t length, size_t at, uint8_t change)
+{
+    message[at] ^= change;
+    compare(length, ANY);
+    message[at] ^= change;
+}
+
+static void try_damaged_bytes(size_t length)
+{
+    for (size_t at = 0; at < length; at++) {
+        for (int bit = 0; length <= 32 && bit < 8; bit++)
+            compare_damaged(length, at, (uint8_t)(1 << bit));
+        compare_damaged(length, at, (uint8_t)(1 + below(255)));
+    }
+}
+
+/* Two neighbours outside the check field, xored with 0A and C3, leave the check
+   the same: in the data this goes unnoticed, in the length it gives 7. */
+static void try_blind_spot(size_t length)
+{
+    static const int in_header[] = {3, 3, 4, ANY, ANY, ANY, 7, 7};
+
+    for (size_t at = 0; at + 1 < length; at++) {
+        if (at >= 3 && at <= 5)
+            continue; /* touches the check field */
+        message[at] ^= 0x0A;
+        message[at + 1] ^= 0xC3;
+        expect("check of changed neighbours", word(message + 4),
+               pcp_check_of_message(message, length), message, length);
+        compare(length, at < 8 ? in_header[at] : 0);
+        message[at] ^= 0x0A;
+        message[at + 1] ^= 0xC3;
+    }
+}
+
+/* Cut at every length, as it is and with its check made right again. */
+static void try_truncated(uint8_t code, size_t data)
+{
+    static const int missing[] = {3, 3, 4, 5, 6, 6, 6, 6};
+    size_t length = make(code, data);
+
+    for (size_t cut = 0; cut < length; cut++)
+        compare(cut, cut < 8 ? missing[cut] : ANY);
+    for (size_t cut = 0; cut < length; cut++) {
+        seal(cut);
+        compare(cut, cut < 8 ? missing[cut] : 7);
+    }
+}
+
+static void try_lengthened(uint8_t code, size_t data)
+{
+    size_t length = make(code, data);
+
+    for (size_t longer = length + 1; longer <= length + 16; longer++) {
+        message[longer - 1] = (uint8_t)below(256);
+        compare(longer, ANY);
+    }
+    for (size_t longer = length + 1; longer <= length + 16; longer++) {
+        seal(longer);
+        compare(longer, 7);
+    }
+}
+
+/* A wrong length with a right check is 7; with a wrong one too it is 6. */
+static void try_wrong_length_field(uint8_t code, size_t data)
+{
+    size_t length = make(code, data);
+
+    for (unsigned field = 0; field <= LONGEST_DATA; field += 1 + below(2000)) {
+        if (field == data)
+            continue;
+        set_length_field(field);
+        seal(length);
+        compare(length, 7);
+        message[4 + below(2)] ^= (uint8_t)(1 + below(255));
+        compare(length, 6);
+    }
+}
+
+static void try_messages_of_code(uint8_t code)
+{
+    static const size_t data[] = {0, 1, 2, 17, 18, 19, 22, 255, 256, 503};
+
+    for (size_t i = 0; i < sizeof data / sizeof data[0]; i++) {
+        size_t length = make(code, data[i]);
+
+        compare(length, 0);
+        try_damaged_bytes(length);
+        try_blind_spot(length);
+        try_truncated(code, data[i]);
+        try_lengthened(code, data[i]);
+        try_wrong_length_field(code, data[i]);
+    }
+}
+
+/* Every value of each of the first four bytes, with a right check. */
+static void try_header_bytes(void)
+{
+    static const struct {
+        int lowest, highest, number;
+    } rule[] = {{0xFF, 0xFF, 3}, {0xFE, 0xFE, 3}, {1, 1, 4}, {19, 24, 5}};
+
+    for (size_t at = 0; at < 4; at++) {
+        size_t length = make(20, 22);
+
+        for (int value = 0; value < 256; value++) {
+            int good = rule[at].lowest <= value && value <= rule[at].highest;
+
+            message[at] = (uint8_t)value;
+            seal(length);
+            compare(length, good ? 0 : rule[at].number);
+        }
+    }
+}
+
+/* Too short for a length field, but with a check that matches. */
+static void try_short_with_right_check(void)
+{
+    for (uint8_t code = 19; code <= 24; code++)
+        for (size_t length = 4; length <= 7; length++)
+            for (int value = 0; value < 256; value++) {
+                make(code, 0);
+                message[6] = (uint8_t)value;
+                seal(length);
+                compare(length, 6);
+            }
+}
+
+/* Yes is any number but 0, and both facts come before the message. */
+static void try_facts(void)
+{
+    static const uint8_t fact[] = {0, 1, 2, 128, 255};
+    static const struct {
+        const char *hex;
+        int number;
+    } with[] = {
+        {"FFFE0117CF900000", 0},   {"", 3},
+        {"FFFF0117CF900000", 3},   {"FFFE0217CF900000", 4},
+        {"FFFE0112CF900000", 5},   {"FFFE0117CF910000", 6},
+        {"FFFE0117CF90000000", 6},
+    };
+    size_t facts = sizeof fact / sizeof fact[0];
+
+    for (size_t i = 0; i < sizeof with / sizeof with[0]; i++) {
+        size_t length = make_from_hex(with[i].hex);
+
+        for (size_t pair = 0; pair < facts * facts; pair++) {
+            uint8_t supported = fact[pair / facts], pcp = fact[pair % facts];
+            int yes = with[i].number;
+
+            compare_facts(supported, pcp, message, length,
+                          supported == 0 ? 1 : pcp == 0 ? 2 : yes);
+        }
+        expect("facts beyond a byte", (unsigned)with[i].number,
+               pcp_recognise_message(256, -1, message, length), message, length);
+    }
+}
+
+static void try_random(void)
+{
+    for (int i = 0; i < 5000; i++) {
+        size_t length = below(100);
+
+        fill_random(0, length);
+        compare(length, ANY);
+    }
+    for (int i = 0; i < 5000; i++) {
+        size_t length = make((uint8_t)(18 + below(8)), below(600));
+
+        fill_random(length, length + 8);
+        for (uint32_t damages = below(3); damages > 0; damages--)
+            message[below((uint32_t)length)] = (uint8_t)below(256);
+        if (below(2) == 0)
+            length = length - 4 + below(9);
+        if (below(2) == 0)
+            seal(length);
+        compare_facts((uint8_t)below(4), (uint8_t)below(4), message, length,
+                      ANY);
+    }
+}
+
+/* The longest message, then longer ones whose length agrees with its field in
+   the field's 16 bits only. */
+static void try_long(void)
+{
+    static const size_t length[] = {LONGEST_DATA + 9, LONGEST_DATA + 10,
+                                    LONGEST_DATA + 509, 2 * LONGEST_DATA + 9,
+                                    LONGEST};
+
+    compare(make(21, LONGEST_DATA), 0);
+    for (size_t i = 0; i < sizeof length / sizeof length[0]; i++) {
+        make(21, length[i] - 8);
+        compare(length[i], 7);
+        message[length[i] - 1] ^= 1; /* a change here always shows */
+        compare(length[i], 6);
+    }
+    fill_random(0, LONGEST);
+    compare(LONGEST, ANY);
+}
+
+int main(void)
+{
+    uint8_t *room = mmap(NULL, (size_t)LONGEST + GUARD, PROT_READ | PROT_WRITE,
+                         MAP_PRIVATE | MAP_ANONYMOUS, -1, 0);
+
+    if (room == MAP_FAILED || mprotect(room + LONGEST, GUARD, PROT_NONE) != 0) {
+        perror("c host");
+        return 2;
+    }
+    guard = room + LONGEST;
+    fill_table();
+
+    try_printed_checks();
+    try_printed_messages();
+    for (uint8_t code = 19; code <= 24; code++)
+        try_messages_of_code(code);
+    try_header_bytes();
+    try_short_with_right_check();
+    try_facts();
+    try_random();
+    try_long();
+
+    printf("c host: %lu compared, %lu different\n", compared, different);
+    return different == 0 ? EXIT_SUCCESS : EXIT_FAILURE;
+}
