@@ -7,7 +7,7 @@ use mathlib.Core.Logic.{_⊎_, inl, inr}
 use mathlib.Core.List.{List, [], _∷_}
 use lib.Dec.{eqb}
 use borrow.Author.Tests.{eqb-true, eqb-false, eq-eqb, ne-eqb}
-use Rattle.basis.specs.Choice.{pick, refusal}
+use Rattle.basis.specs.Choice.{pick, refusal, oneOf}
 
 module _ {ℓ} {A : Type ℓ} where
   pub pick-yes : (t : Bool) (a b : A) → t ≡ true → pick t a b ≡ a
@@ -25,6 +25,22 @@ pub by-cases {ℓ κ} : {A : Type ℓ} (P : A → Type κ) {t : Bool} {a b : A} 
 unfolding pick
 by-cases P {t = true} f g = f refl
 by-cases P {t = false} f g = g refl
+
+pub pick-of : {A B : Type 0} (f : A → B) (t : Bool) (a b : A) → pick t (f a) (f b) ≡ f (pick t a b)
+unfolding pick
+pick-of f true a b = refl
+pick-of f false a b = refl
+
+-- a choice between a test and a constant is a test
+pub pick-or : (t b : Bool) → pick t true b ≡ (t || b)
+unfolding pick
+pick-or true b = refl
+pick-or false b = refl
+
+pub pick-unless : (t a : Bool) → pick t a true ≡ (not t || a)
+unfolding pick
+pick-unless true a = refl
+pick-unless false a = refl
 
 pub and-left : (a b : Bool) → (a && b) ≡ true → a ≡ true
 and-left true b e = refl
@@ -82,3 +98,17 @@ pub refusal-among : (P : ℕ → Type 0) (ts : List (ℕ × Bool)) → P 0 → E
 unfolding refusal
 refusal-among P [] z e = z
 refusal-among P (t ∷ ts) z e = by-cases P (λ _. refusal-among P ts z (e .1)) (λ _. e .0)
+
+-- what holds of each of some numbers holds of one of them
+abbrev pub Every : (ℕ → Type 0) → List ℕ → Type 0
+Every P [] = Unit
+Every P (n ∷ ns) = P n × Every P ns
+
+pub one-of-every : (P : ℕ → Type 0) (x : ℕ) (ns : List ℕ) → oneOf x ns ≡ true → Every P ns → P x
+unfolding oneOf
+one-of-every P x [] e h = absurd (false≢true e)
+one-of-every P x (n ∷ ns) e h = here (eqb x n) refl e (λ k. one-of-every P x ns k (h .1))
+  where
+    here : (t : Bool) → eqb x n ≡ t → (t || oneOf x ns) ≡ true → (oneOf x ns ≡ true → P x) → P x
+    here true q e later = rw (eqb-true x n q) (h .0)
+    here false q e later = later e

@@ -1,11 +1,11 @@
 -- Laws of lists as buffers: parts, WORDs, and what is written over a buffer. Assumes nothing.
 use Prim.Native.Nat.{ℕ, zero, suc, _+_, _*_, _/_, _%_, _-_, _≤_, _<_, min}
-use native.Mathlib.Nat.{zero-add, add-zero, add-suc, suc-add}
+use native.Mathlib.Nat.{mul-le-mul, zero-add, add-zero, add-suc, suc-add}
 use native.Mathlib.Numerals.{add-one}
 use native.Mathlib.Decide.{decLe}
 use native.Mathlib.Omega.{arith}
 use mathlib.Core.Path.{_≡_, refl, sym, _∙_, ap, ap₂}
-use mathlib.Core.Bool.{Bool, true, false, _&&_, _||_, false≢true}
+use mathlib.Core.Bool.{Bool, true, false, _&&_, _||_, false≢true, true≢false}
 use mathlib.Core.List.{List, [], _∷_, _++_, append-assoc}
 use lib.Dec.{eqb}
 use lib.ListN.{length, take, drop, getD, set, length-append, length-take, length-drop, length-set, take-append-drop, drop-of-length-le, replicate, List·getD-eq-default}
@@ -14,6 +14,12 @@ use borrow.Author.Tests.{eqb-true, eq-eqb, ne-eqb}
 use Rattle.basis.specs.Choice.{oneOf}
 use Rattle.basis.specs.Bytes.{Bytes, wordAt, wordBytes, part, same, over, patched}
 use Rattle.basis.proofs.Choosing.{and-left, and-right, and-both}
+
+-- ---- numbers
+
+-- the product of two WORDs
+pub words-product : (a b : ℕ) → a < 65536 → b < 65536 → a * b ≤ 65535 * 65535
+words-product a b h k = mul-le-mul {n₁ = a} {m₁ = b} {n₂ = 65535} {m₂ = 65535} (omega arith) (omega arith)
 
 -- ---- the same list
 
@@ -31,6 +37,13 @@ same-refl (x ∷ xs) = and-both (eq-eqb x x refl) (same-refl xs)
 
 pub same-eq : (xs ys : List ℕ) → xs ≡ ys → same xs ys ≡ true
 same-eq xs ys e = rw (← e) (same-refl xs)
+
+pub same-swap : (xs ys : List ℕ) → same xs ys ≡ false → same ys xs ≡ false
+same-swap xs ys e = at (same ys xs) refl
+  where
+    at : (t : Bool) → same ys xs ≡ t → same ys xs ≡ false
+    at true t = absurd (true≢false (sym (same-eq xs ys (sym (same-true ys xs t))) ∙ e))
+    at false t = t
 
 -- two lists by what is left of them from a place on
 pub same-later : (xs ys : List ℕ) (i : ℕ) → i < length xs → i < length ys → getD xs i 0 ≡ getD ys i 0 → same (drop i xs) (drop i ys) ≡ same (drop (i + 1) xs) (drop (i + 1) ys)

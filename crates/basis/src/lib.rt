@@ -4,7 +4,21 @@ ghost use mathlib.Core.Path.{_≡_};
 ghost use Prim.Native.Nat.{_+_, _≤_, min};
 ghost use lib.ListN.{length, getD};
 ghost use Rattle.basis.specs.Bytes.{wordAt, patched};
-ghost use Rattle.basis.specs.Choice.{oneOf};
+ghost use Rattle.basis.specs.Choice.{pick, oneOf};
+
+// The first where the test holds, else the second.
+pub fn pick(test: bool, yes: u8, no: u8) -> u8
+    ensures { λ r. ⌜ r ≡ pick test yes no ⌝ }
+{
+    if test { yes } else { no }
+}
+
+// The number where the test fails, else the rest: a chain of these is a list of refusals in order.
+pub fn unless(test: bool, number: u8, rest: u8) -> u8
+    ensures { λ r. ⌜ r ≡ pick test rest number ⌝ }
+{
+    pick(test, rest, number)
+}
 
 // The lesser of two lengths.
 pub fn least(a: usize, b: usize) -> usize

@@ -1,0 +1,17 @@
+pub mod Images
+pub mod Maps
+pub mod Ranges
+pub mod Holds
+pub mod Views
+pub mod Sound
+pub mod Standing
+pub mod Numbers
+pub mod Announced
+pub mod Executed
+pub mod Fragments
+pub mod Guarded
+pub mod Readings
+pub mod Records
+pub mod Replying
+pub mod Storing
+pub mod Wanted

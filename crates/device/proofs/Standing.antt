@@ -1,0 +1,96 @@
+-- The rule that at the place of every stored index stand bytes of which something holds: Held's fragments before the start, the package's
+-- stretches after it, and nothing in particular for the count. Assumes nothing.
+use Prim.Native.Nat.{ℕ, _*_, _≤_, _<_}
+use native.Mathlib.Omega.{arith}
+use mathlib.Core.Path.{_≡_, sym, _∙_, ap}
+use mathlib.Core.List.{List}
+use lib.ListN.{length, take, drop}
+use lib.Seq.{take-take}
+use Rattle.basis.specs.Bytes.{patched}
+use Rattle.message.specs.Messages.{fragment}
+use Rattle.message.specs.Codec.{found}
+use Rattle.message.specs.declared.Fields.{Fields}
+use Rattle.device.specs.declared.Device.{Device}
+use Rattle.device.specs.Record.{idle, loading, failed}
+use Rattle.device.proofs.Images.{Stands, place-within, patched-stands, joined}
+use Rattle.device.proofs.Ranges.{fragment-fits}
+use Rattle.device.proofs.Holds.{Rule, Holds, holds-all}
+use Rattle.device.proofs.Views
+use Rattle.device.proofs.Sound.{Download, Sound, sound-under, sound-does}
+
+module _ (Q : (index : ℕ) → List ℕ → Type 0) where
+  -- bytes of which Q holds stand at the index's place
+  pub record Stored (f : Fields) (image : List ℕ) (index : ℕ) : Type 0 where
+    pub bytes : List ℕ
+    pub known : Q index bytes
+    pub fits : length bytes ≤ f .size
+    pub stands : Stands image (index * f .size) bytes
+
+  pub stored-elsewhere : (f : Fields) (image other : List ℕ) (index : ℕ)
+      → take (f .size) (drop (index * f .size) image) ≡ take (f .size) (drop (index * f .size) other) → Stored f image index → Stored f other index
+  stored-elsewhere f image other index e p =
+      let n : ℕ = length (p .bytes) in
+      record {
+        bytes = p .bytes;
+        known = p .known;
+        fits = p .fits;
+        stands =
+            sym (take-take n (f .size) (drop (index * f .size) other) (p .fits)) ∙ ap (take n) (sym e)
+            ∙ take-take n (f .size) (drop (index * f .size) image) (p .fits) ∙ p .stands;
+      }
+
+  abbrev pub standing : Rule
+  standing =
+      record {
+        P = λ f image last index. Stored f image index;
+        depends = λ f image other last later index e _ p. stored-elsewhere f image other index e p;
+      }
+
+  module _ (d : Device) (image map : List ℕ) where
+    -- a fragment of which Q holds, just stored
+    pub stored-new : (index : ℕ) (bytes : List ℕ) → Sound standing d image map → Views.Stores d image map index bytes → Q index bytes
+        → Stored (d .fields) (patched (index * d .fields .size) bytes image) index
+    stored-new index bytes s st q =
+        let h : Holds standing (d .fields) image map (d .last) = s .download (λ e. omega (arith, st .phase)) .holds in
+        let fits : length bytes ≤ d .fields .size = fragment-fits (d .fields) index (length bytes) (st .long) in
+        record {
+          bytes = bytes;
+          known = q;
+          fits = fits;
+          stands = patched-stands (index * d .fields .size) bytes image
+              (omega (arith, h .image-room, place-within (d .fields .size) (d .fields .total) index (length bytes) (st .below) fits));
+        }
+
+    -- any call
+    pub standing-does : (input : Views.Input) (o : Views.Out) → Views.Does d image map input o
+        → ((condition index : ℕ) (bytes : List ℕ) → input ≡ Views.hears condition (found (fragment 0x00 index bytes))
+        → Views.Stores d image map index bytes
+        → Q index bytes)
+        → Sound standing d image map → Sound standing (o .device) (o .image) (o .map)
+    standing-does input o does q s =
+        sound-does standing d image map input o does (λ condition index bytes i st. stored-new index bytes s st (q condition index bytes i st)) s
+
+    -- full: every index has its bytes
+    pub stored-all : Sound standing d image map → (d .phase ≡ idle → ⊥) → (d .phase ≡ loading → ⊥) → (d .phase ≡ failed → ⊥)
+        → (index : ℕ) → index < d .fields .total → Stored (d .fields) image index
+    stored-all s a b c =
+        let w : Download standing d image map = s .download a in
+        holds-all standing (d .fields) image map (d .last) (w .holds) (sym (w .counts) ∙ w .full b c)
+
+-- what holds of the bytes may say less, or something else that follows for the indices that are marked
+pub standing-under : (Q R : (index : ℕ) → List ℕ → Type 0) (d : Device) (image map : List ℕ)
+    → ((d .phase ≡ idle → ⊥) → (index : ℕ) (bytes : List ℕ) → index < d .fields .total → Q index bytes → R index bytes)
+    → Sound (standing Q) d image map → Sound (standing R) d image map
+standing-under Q R d image map so =
+    sound-under (standing Q) (standing R) d image map
+    (λ h index l _ p. record { bytes = p .bytes; known = so h index (p .bytes) l (p .known); fits = p .fits; stands = p .stands })
+
+-- full with the package's stretches: the image begins with the package
+pub package-stands : (content : List ℕ) (d : Device) (image map : List ℕ)
+    → Sound (standing (λ index bytes. bytes ≡ take (d .fields .size) (drop (index * d .fields .size) content))) d image map
+    → length content ≤ d .fields .size * d .fields .total → (d .phase ≡ idle → ⊥) → (d .phase ≡ loading → ⊥) → (d .phase ≡ failed → ⊥)
+    → take (length content) image ≡ content
+package-stands content d image map s l a b c =
+    let Q : ℕ → List ℕ → Type 0 = λ index bytes. bytes ≡ take (d .fields .size) (drop (index * d .fields .size) content) in
+    joined (d .fields .size) content image (d .fields .total) l
+    (λ i k. let p : Stored Q (d .fields) image i = stored-all Q d image map s a b c i k in rw (p .known) at (p .stands))

@@ -1,0 +1,193 @@
+-- The device's steps: 01, "The head", with the refusals of "Numbers returned" in their order. Assumes nothing.
+use Prim.Native.Nat.{ℕ, _+_, _*_, _-_}
+use mathlib.Core.Bool.{Bool, true, _&&_, _||_, not}
+use mathlib.Core.List.{List, [], _∷_}
+use lib.Dec.{eqb, leb, ltb}
+use lib.ListN.{length, take}
+use Rattle.basis.specs.Choice.{pick, refusal, oneOf}
+use Rattle.basis.specs.Bytes.{same, over, patched}
+use Rattle.checksum.specs.Check.{checkOf}
+use Rattle.message.specs.Limits.{deviceRoom}
+use Rattle.message.specs.Messages.{DeviceMessage, query, announce, fragment, downloadReply, execute, resultReply, GatewayMessage, queryReply, announceReply, fragmentRequest, downloadReport, executeReply, resultReport, installCode}
+use Rattle.message.specs.Codec.{Reading, found, refused, Sent, toDevice, toGateway, bytesOf, readOf, said}
+use Rattle.message.specs.declared.Fields.{Fields}
+use Rattle.device.specs.declared.Device.{Device}
+use Rattle.device.specs.Record.{idle, loading, loaded, acked, failed, installing, reporting, holding, conditionOk, inPhase, begun, grown, ended, recordOk, roomOk, mapBytes}
+use Rattle.bitmap.specs.Bitmap.{marked, mark, cleared, lowestMissing}
+
+-- what a call leaves: the number, the length of the reply, the record, and the three buffers
+pub record After : Type 0 where
+  pub number : ℕ
+  pub length : ℕ
+  pub device : Device
+  pub image : List ℕ
+  pub map : List ℕ
+  pub reply : List ℕ
+
+-- ---- the tests of an announcement and of a fragment
+
+-- 20: what it is answered with, tests in order
+unfoldable pub announceResult : Device → (condition : ℕ) → Fields → (image map : List ℕ) → ℕ
+announceResult d condition f image map =
+    pick (leb installing (d .phase)) 0x01
+    (pick (not (eqb condition 0)) condition
+    (pick (same (f .version) (d .running)) 0x03
+    (pick (ltb (length image) (f .size * f .total)) 0x05
+    (pick (ltb (length map) (mapBytes (f .total))) 0x09
+    0x00))))
+
+unfoldable pub sameFields : Fields → Fields → Bool
+sameFields f g = same (f .version) (g .version) && (eqb (f .size) (g .size) && (eqb (f .total) (g .total) && eqb (f .code) (g .code)))
+
+-- 20: the download that is held goes on
+unfoldable pub resumes : Device → Fields → Bool
+resumes d f = holding (d .phase) && (not (eqb (f .code) 0) && sameFields f (d .fields))
+
+-- 21: size long; the last may be 1 to size
+unfoldable pub fragmentLength : Fields → (index length : ℕ) → Bool
+fragmentLength f index n = pick (eqb (index + 1) (f .total)) (leb 1 n && leb n (f .size)) (eqb n (f .size))
+
+-- the completed bytes pass where the code is 0 or their check
+unfoldable pub passes : (code : ℕ) → List ℕ → Bool
+passes code bytes = eqb code 0 || eqb code (checkOf bytes)
+
+-- the phase once a fragment is stored; `last` is the length of the last one, so that the package ends at its true length
+unfoldable pub completion : (stored last : ℕ) → Fields → (image : List ℕ) → ℕ
+completion stored last f image =
+    pick (eqb stored (f .total))
+    (pick (passes (f .code) (take (f .size * (f .total - 1) + last) image)) loaded failed)
+    loading
+
+-- 23: what it is answered with
+unfoldable pub executeResult : (phase condition : ℕ) → ℕ
+executeResult phase condition =
+    pick (eqb phase installing) 0x00
+    (pick (eqb phase loaded || eqb phase acked)
+    (pick (oneOf condition (1 ∷ 4 ∷ [])) condition (pick (eqb condition 127) 0x01 0x00))
+    0x01)
+
+module _ (d : Device) (image map reply : List ℕ) where
+  -- a refusal: nothing written, reply length 0
+  abbrev pub refuse : ℕ → After
+  refuse n = record { number = n; length = 0; device = d; image = image; map = map; reply = reply }
+
+  -- handled, with no reply; only the record changes
+  abbrev pub moved : Device → After
+  moved e = record { number = 0; length = 0; device = e; image = image; map = map; reply = reply }
+
+  -- handled, with a reply at the front of its buffer
+  abbrev pub replied : Device → GatewayMessage → After
+  replied e m =
+      record { number = 0; length = length (bytesOf toGateway m); device = e; image = image; map = map; reply = over (bytesOf toGateway m) reply }
+
+  -- 20 answered 00 afresh: Loading, the four fields taken, the map bytes zeroed
+  unfoldable pub begin : Fields → After
+  begin f =
+      let m : GatewayMessage = announceReply 0x00 in
+      record
+      { number = 0
+      ; length = length (bytesOf toGateway m)
+      ; device = begun f d
+      ; image = image
+      ; map = cleared (mapBytes (f .total)) map
+      ; reply = over (bytesOf toGateway m) reply
+      }
+
+  -- 21 with 00, in range and new: the data at its place, the bit set, the count grown, the phase by what is then complete
+  unfoldable pub store : (index : ℕ) → List ℕ → After
+  store index bytes =
+      let f : Fields = d .fields in
+      let last : ℕ = pick (eqb (index + 1) (f .total)) (length bytes) (d .last) in
+      let filled : List ℕ = patched (index * f .size) bytes image in
+      record
+      { number = 0
+      ; length = 0
+      ; device = grown (completion (d .stored + 1) last f filled) last d
+      ; image = filled
+      ; map = mark index map
+      ; reply = reply
+      }
+
+  -- ---- the six messages
+
+  unfoldable pub onQuery : After
+  onQuery = replied d (queryReply 0x00 (d .running))
+
+  unfoldable pub onAnnounce : (condition : ℕ) → Fields → After
+  onAnnounce condition f =
+      let result : ℕ = announceResult d condition f image map in
+      pick (eqb result 0) (pick (resumes d f) (replied d (announceReply 0x00)) (begin f)) (replied d (announceReply result))
+
+  unfoldable pub onFragment : (result index : ℕ) → List ℕ → After
+  onFragment result index bytes =
+      pick (eqb (d .phase) loading)
+      (pick (eqb result 0x80) (moved (inPhase idle d))
+      (pick (eqb result 0x81) (moved d)
+      (pick (leb (d .fields .total) index) (refuse 10)
+      (pick (fragmentLength (d .fields) index (length bytes))
+      (pick (marked map index) (refuse 12) (store index bytes))
+      (refuse 11)))))
+      (refuse 9)
+
+  unfoldable pub onDownloadReply : (result : ℕ) → After
+  onDownloadReply result =
+      pick (eqb (d .phase) loaded) (moved (inPhase (pick (eqb result 0x00) acked idle) d))
+      (pick (eqb (d .phase) failed) (moved (inPhase idle d))
+      (refuse 9))
+
+  unfoldable pub onExecute : (condition : ℕ) → After
+  onExecute condition =
+      let result : ℕ = executeResult (d .phase) condition in
+      replied (pick (eqb result 0x00) (inPhase installing d) d) (executeReply result)
+
+  unfoldable pub onResultReply : After
+  onResultReply = pick (eqb (d .phase) reporting) (moved (inPhase idle d)) (refuse 9)
+
+  -- what a reading leads to
+  unfoldable pub handle : (condition : ℕ) → Reading DeviceMessage → After
+  handle condition (refused n) = refuse n
+  handle condition (found query) = onQuery
+  handle condition (found (announce f)) = onAnnounce condition f
+  handle condition (found (fragment result index bytes)) = onFragment result index bytes
+  handle condition (found (downloadReply result)) = onDownloadReply result
+  handle condition (found execute) = onExecute condition
+  handle condition (found (resultReply result)) = onResultReply
+
+  -- a message is given: 15, 13, 29, 14, 1 to 8, then the message's own rule
+  unfoldable pub receiveOf : (supported pcp : Bool) (condition : ℕ) (message : List ℕ) → After
+  receiveOf supported pcp condition message =
+      let n : ℕ =
+          refusal ((15, leb deviceRoom (length reply)) ∷ (13, conditionOk condition) ∷ (29, recordOk d) ∷ (14, roomOk d image map) ∷ []) in
+      pick (eqb n 0) (handle condition (readOf toDevice supported pcp message)) (refuse n)
+
+-- ---- asking for the next message
+
+-- what a phase has to say; 9 where it has nothing, 29 where Loading finds none missing
+unfoldable pub wanted : Device → (map : List ℕ) → Reading GatewayMessage
+wanted d map =
+    let index : ℕ = lowestMissing map (d .fields .total) in
+    pick (eqb (d .phase) loading) (pick (ltb index (d .fields .total)) (found (fragmentRequest (d .fields .version) index)) (refused 29))
+    (pick (eqb (d .phase) loaded) (found (downloadReport 0x00))
+    (pick (eqb (d .phase) failed) (found (downloadReport 0x07))
+    (pick (eqb (d .phase) reporting) (found (resultReport (d .outcome) (d .running)))
+    (refused 9))))
+
+-- 15, 29, 14, then what there is to say
+unfoldable pub nextMessageOf : Device → (image map reply : List ℕ) → Sent
+nextMessageOf d image map reply =
+    let n : ℕ = refusal ((15, leb deviceRoom (length reply)) ∷ (29, recordOk d) ∷ (14, roomOk d image map) ∷ []) in
+    said toGateway (pick (eqb n 0) (wanted d map) (refused n)) reply
+
+-- ---- the installer's end
+
+pub record Finish : Type 0 where
+  pub number : ℕ
+  pub device : Device
+
+-- 29, 9, 16; its code is kept, and with 00 the target becomes the running version
+unfoldable pub installFinishedOf : Device → (code : ℕ) → Finish
+installFinishedOf d code =
+    let n : ℕ = refusal ((29, recordOk d) ∷ (9, eqb (d .phase) installing) ∷ (16, installCode code) ∷ []) in
+    pick (eqb n 0)
+    (record { number = 0; device = ended code (pick (eqb code 0x00) (d .fields .version) (d .running)) d })
+    (record { number = n; device = d })

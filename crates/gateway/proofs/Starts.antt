@@ -1,0 +1,28 @@
+-- Starting a gateway: the answer by the number that its tests give. Assumes nothing.
+use Prim.Native.Nat.{ℕ}
+use mathlib.Core.Path.{_≡_, sym}
+use mathlib.Core.Bool.{Bool}
+use mathlib.Core.List.{List, [], _∷_}
+use lib.Dec.{eqb}
+use lib.ListN.{length, replicate}
+use borrow.Author.Tests.{eq-eqb, ne-eqb}
+use Rattle.basis.specs.Choice.{pick, refusal}
+use Rattle.basis.proofs.Choosing.{pick-yes, pick-no}
+use Rattle.checksum.specs.Check.{checkOf}
+use Rattle.message.specs.Limits.{sizeOk}
+use Rattle.message.specs.Version.{goodVersion}
+use Rattle.gateway.specs.declared.Gateway.{Gateway}
+use Rattle.gateway.specs.declared.Started.{Started}
+use Rattle.gateway.specs.Record.{lengthOk, started, startOf}
+
+module _ (version : List ℕ) (size : ℕ) (content : List ℕ) (checked : Bool) (n : ℕ) (g : Gateway)
+    (tested : n ≡ refusal ((17, goodVersion version) ∷ (18, sizeOk size) ∷ (19, lengthOk (length content) size) ∷ [])) where
+  pub start-refused : (n ≡ 0 → ⊥) → g ≡ started (replicate 16 0) 0 0 0
+      → _≡_ {A = Started} (record { number = n; gateway = g }) (startOf version size content checked)
+  unfolding startOf
+  start-refused h e = rw (e, ← tested) (sym (pick-no (eqb n 0) _ _ (ne-eqb n 0 h)))
+
+  pub start-made : (code : ℕ) → n ≡ 0 → code ≡ pick checked (checkOf content) 0 → g ≡ started version size (length content) code
+      → _≡_ {A = Started} (record { number = 0; gateway = g }) (startOf version size content checked)
+  unfolding startOf
+  start-made code h q e = rw (e, q, ← tested) (sym (pick-yes (eqb n 0) _ _ (eq-eqb n 0 h)))

@@ -1,0 +1,17 @@
+-- `gateway::replies::number_of` meets its contract. Assumes nothing.
+use borrow.Author.Needs.{needs}
+use Rattle.gateway.proofs.Handling.{not-refused}
+use Rattle.gateway.proofs.replies.number_of.Statement.{statement}
+use Rattle.gateway.proofs.replies.number_of.Tie as tie
+
+enum-known-message : tie.Need-enum-known-message
+enum-known-message c = search needs
+
+returns : tie.Need-returns
+returns c = search needs
+
+returns-2 : tie.Need-returns-2
+returns-2 c = not-refused (c .before .args .message) (c .match .keys2)
+
+pub number-of-spec : {M : Type 1} → statement M
+number-of-spec = tie.close (tie.spec enum-known-message returns returns-2)

@@ -1,0 +1,5 @@
+pub mod Record
+pub mod Stretch
+pub mod Rules
+pub mod Coded
+pub mod Inner

@@ -1,0 +1,70 @@
+-- The gateway's record, its start, and the package in fragments: 01, "The gateway" and "Numbers returned". Assumes nothing.
+use Prim.Native.Nat.{ℕ, _+_, _*_, _-_, _/_}
+use mathlib.Core.Bool.{Bool, _&&_}
+use mathlib.Core.List.{List, [], _∷_}
+use lib.Dec.{eqb, leb}
+use lib.ListN.{length, take, drop, replicate}
+use Rattle.basis.specs.Choice.{pick, refusal}
+use Rattle.checksum.specs.Check.{checkOf}
+use Rattle.message.specs.Limits.{sizeOk, totalMax}
+use Rattle.message.specs.Version.{goodVersion}
+use Rattle.message.specs.declared.Fields.{Fields}
+use Rattle.gateway.specs.declared.Gateway.{Gateway}
+use Rattle.gateway.specs.declared.Started.{Started}
+
+abbrev pub ask : ℕ
+ask = 0
+
+abbrev pub offer : ℕ
+offer = 1
+
+abbrev pub serve : ℕ
+serve = 2
+
+abbrev pub run : ℕ
+run = 3
+
+abbrev pub ended : ℕ
+ended = 4
+
+-- ---- the package
+
+-- length over size, rounded up
+unfoldable pub totalOf : (length size : ℕ) → ℕ
+totalOf length size = (length + (size - 1)) / size
+
+-- neither empty nor longer than 65,535 fragments
+unfoldable pub lengthOk : (length size : ℕ) → Bool
+lengthOk length size = leb 1 length && leb length (totalMax * size)
+
+-- the stretch of the package for an index
+unfoldable pub fragmentOf : List ℕ → (size index : ℕ) → List ℕ
+fragmentOf content size index = take size (drop (index * size) content)
+
+-- the four fields that the announcement carries
+abbrev pub offered : Gateway → Fields
+offered g = record { version = g .version; size = g .size; total = totalOf (g .length) (g .size); code = g .code }
+
+-- ---- the ways in which a record is made; no rule makes one otherwise
+
+abbrev pub started : (version : List ℕ) (size length code : ℕ) → Gateway
+started version size length code = record { phase = ask; ending = 0; version = version; size = size; length = length; code = code }
+
+abbrev pub inPhase : ℕ → Gateway → Gateway
+inPhase phase g = record { phase = phase; ending = g .ending; version = g .version; size = g .size; length = g .length; code = g .code }
+
+abbrev pub endedWith : ℕ → Gateway → Gateway
+endedWith number g = record { phase = ended; ending = number; version = g .version; size = g .size; length = g .length; code = g .code }
+
+-- 17, 18, 19; the check code is 0, or the check rule over the package, as the caller chose
+unfoldable pub startOf : (version : List ℕ) (size : ℕ) (content : List ℕ) (checked : Bool) → Started
+startOf version size content checked =
+    let n : ℕ = refusal ((17, goodVersion version) ∷ (18, sizeOk size) ∷ (19, lengthOk (length content) size) ∷ []) in
+    pick (eqb n 0)
+    (record { number = 0; gateway = started version size (length content) (pick checked (checkOf content) 0) })
+    (record { number = n; gateway = started (replicate 16 0) 0 0 0 })
+
+-- 29 where it fails: phase, ending number, version, size, length
+unfoldable pub recordOk : Gateway → Bool
+recordOk g =
+    (leb (g .phase) ended && leb (g .ending) 5) && (goodVersion (g .version) && (sizeOk (g .size) && lengthOk (g .length) (g .size)))

@@ -1,0 +1,73 @@
+-- The clean run of a setting, from the announcement to the end, and that it has one outcome. Assumes nothing.
+use Prim.Native.Nat.{ℕ, zero, suc, _+_, _-_}
+use native.Mathlib.Omega.{arith}
+use mathlib.Core.Path.{_≡_, refl}
+use mathlib.Core.List.{List}
+use Rattle.device.specs.Record as device
+use Rattle.gateway.specs.declared.Gateway.{Gateway}
+use Rattle.gateway.specs.Record as gateway
+use Rattle.upgrade.specs.Calls.{DeviceEnd, asked, World}
+use Rattle.upgrade.specs.Clean.{UntilSilent, silent, spoken, ending}
+use Rattle.upgrade.proofs.CleanSetting.{Setting, total, gatewayIn, endIn, loadingAt, some, total-some}
+use Rattle.upgrade.proofs.CleanCalls.{At, Spoke, asksDevice, asksGateway}
+use Rattle.upgrade.proofs.CleanLoad.{Front, front-none, front-more}
+use Rattle.upgrade.proofs.CleanSteps.{announced, fetched-one, fetched-last, quiet, reported, executed, finished, succeeded}
+
+-- asking until there is nothing to send ends in one way at most
+pub one-silence : (content deviceReply gatewayReply : List ℕ) {w v u : World} → UntilSilent content deviceReply gatewayReply w v
+    → UntilSilent content deviceReply gatewayReply w u → v ≡ u
+one-silence content deviceReply gatewayReply (silent p) (silent q) = refl
+one-silence content deviceReply gatewayReply (silent p) (spoken q n) = absurd (q p)
+one-silence content deviceReply gatewayReply (spoken p m) (silent q) = absurd (p q)
+one-silence content deviceReply gatewayReply (spoken p m) (spoken q n) = one-silence content deviceReply gatewayReply m n
+
+module _ (s : Setting) where
+  abbrev pub Until : World → World → Type 0
+  Until = UntilSilent (s .content) (s .deviceReply) (s .gatewayReply)
+
+  -- all is stored and acknowledged
+  pub record Fetched (v : World) : Type 0 where
+    pub stored : ℕ
+    pub last : ℕ
+    pub image : List ℕ
+    pub map : List ℕ
+    pub here : At v (endIn s device.acked stored last image map) (gatewayIn s gateway.run)
+
+  abbrev pub Fetches : World → Type 0
+  Fetches w = (v : World) × Until w v × Fetched v
+
+  -- asked once more
+  after-one : (w : World) {e : DeviceEnd} {g : Gateway} → Spoke s w e g → Fetches (asksDevice s w) → Fetches w
+  after-one w p f = (f .0, spoken (p .speaks) (f .1), f .2)
+
+  -- with the first k fragments, and n more behind the next one
+  fetches : (n k : ℕ) (image map : List ℕ) (w : World) → Front (s .content) (s .size) (some s) k image map → k + suc n ≡ total s
+      → At w (loadingAt s k image map) (gatewayIn s gateway.serve) → Fetches w
+  fetches zero k image map w front e here =
+      let last : Spoke s w _ _ = fetched-last s k image map front (omega arith) w here e in
+      let told : Spoke s (asksDevice s w) _ _ = reported s _ _ _ _ (asksDevice s w) (last .leads) in
+      after-one w last (after-one (asksDevice s w) told (
+        asksDevice s (asksDevice s w),
+        silent (quiet s _ _ _ _ _ (told .leads)),
+        record { stored = _; last = _; image = _; map = _; here = told .leads },
+      ))
+  fetches (suc n) k image map w front e here =
+      let one : Spoke s w _ _ = fetched-one s k image map front (omega arith) w here (omega arith) in
+      after-one w one
+      (fetches n (k + 1) _ _ (asksDevice s w) (front-more (s .content) (s .size) (some s) k image map front (omega arith) (omega arith)) (omega arith) (one .leads))
+
+  module _ (w : World) (here : At w (s .first) (gatewayIn s gateway.offer)) where
+    pub fetched : Fetches (asksGateway s w)
+    fetched =
+        fetches (total s - 1) 0 _ _ (asksGateway s w) (front-none (s .content) (s .size) (some s) (s .first .image) (s .first .map) (s .image-room) (s .map-room))
+        (omega (arith, total-some s)) (announced s w here)
+
+    pub ends : (v : World) → Fetched v → ending (s .content) (s .deviceReply) (s .gatewayReply) v .gateway ≡ gatewayIn s gateway.ended
+    ends v f =
+        succeeded s _ _ _ _ _ (finished s _ _ _ _ _ (executed s _ _ _ _ v (f .here))) .leads .gateway-is
+
+    -- whenever the device is silent after the announcement, the rest of the run ends the gateway with success
+    pub succeeds : (v : World) → Until (asksGateway s w) v → ending (s .content) (s .deviceReply) (s .gatewayReply) v .gateway ≡ gatewayIn s gateway.ended
+    succeeds v until =
+        let (u, other, f) = fetched in
+        rw (one-silence (s .content) (s .deviceReply) (s .gatewayReply) until other) (ends u f)

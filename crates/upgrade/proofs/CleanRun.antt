@@ -1,0 +1,118 @@
+-- The clean run leaves the gateway Ended with 0: the records that any calls before the start leave are a setting of it. Assumes nothing.
+use Prim.Native.Nat.{ℕ}
+use native.Mathlib.Omega.{arith}
+use mathlib.Core.Path.{_≡_, refl, _∙_, ap, ap₂}
+use mathlib.Core.Bool.{Bool, true, false, _||_}
+use mathlib.Core.List.{List, [], _∷_}
+use lib.Dec.{eqb}
+use borrow.Author.Tests.{eq-eqb, lt-ltb}
+use Rattle.basis.specs.Choice.{pick}
+use Rattle.basis.proofs.Choosing.{by-cases}
+use Rattle.basis.proofs.Lists.{same-swap}
+use Rattle.checksum.specs.Check.{checkOf}
+use Rattle.checksum.proofs.Register.{check-fits}
+use Rattle.message.specs.Limits.{isWord}
+use Rattle.message.specs.Messages.{GatewayMessage}
+use Rattle.message.specs.Codec.{Reading}
+use Rattle.device.specs.Rules.{passes}
+use Rattle.gateway.specs.declared.Gateway.{Gateway}
+use Rattle.gateway.specs.Record as gateway
+use Rattle.gateway.proofs.Views.{Turns, stays, offers, serves, runs, fails, succeeds, received}
+use Rattle.gateway.proofs.Package.{Begun, starts}
+use Rattle.upgrade.specs.Fold.{after}
+use Rattle.upgrade.specs.Calls.{GatewayCall, gatewayNext}
+use Rattle.upgrade.specs.Demand3.{Before, deviceThen, gatewayThen, start}
+use Rattle.upgrade.specs.Clean.{CleanStart, CleanRun}
+use Rattle.upgrade.proofs.Count.{made-fine, run-fine}
+use Rattle.upgrade.proofs.CleanSetting.{Setting, gatewayIn}
+use Rattle.upgrade.proofs.CleanCalls.{At}
+use Rattle.upgrade.proofs.CleanCourse as of
+
+-- ---- the gateway before the start
+
+-- until Ended only the phase is another than at its start
+abbrev Unended : Gateway → Gateway → Type 0
+Unended g h = (h .phase ≡ gateway.ended → ⊥) → h ≡ gateway.inPhase (h .phase) g
+
+module _ (content : List ℕ) (g : Gateway) where
+  unended-turn : (h k : Gateway) (heard : Reading GatewayMessage) → Turns h content heard k → Unended g h → Unended g k
+  unended-turn h k heard (stays e) u = rw e u
+  unended-turn h k heard (offers p e) u = rw e (λ _. ap (gateway.inPhase gateway.offer) (u (λ z. omega arith)))
+  unended-turn h k heard (serves p m e) u = rw e (λ _. ap (gateway.inPhase gateway.serve) (u (λ z. omega arith)))
+  unended-turn h k heard (runs p e) u = rw e (λ _. ap (gateway.inPhase gateway.run) (u (λ z. omega arith)))
+  unended-turn h k heard (fails n z e) u = rw e (λ not. absurd (not refl))
+  unended-turn h k heard (succeeds p m e) u = rw e (λ not. absurd (not refl))
+
+  unended-next : (h : Gateway) (c : GatewayCall) → Unended g h → Unended g (gatewayNext content h c)
+  unfolding gatewayNext
+  unended-next h (GatewayCall.given supported pcp message reply) u = unended-turn h _ _ (received h content reply supported pcp message .turns) u
+  unended-next h (GatewayCall.asked reply) u = u
+
+  unended-after : (calls : List GatewayCall) (h : Gateway) → Unended g h → Unended g (after (gatewayNext content) h calls)
+  unended-after [] h u = u
+  unended-after (c ∷ cs) h u = unended-after cs (gatewayNext content h c) (unended-next h c u)
+
+-- ---- the setting
+
+-- whichever code the caller chose, it is a WORD that the package passes
+code-chosen : (checked : Bool) (content : List ℕ) → let code : ℕ = pick checked (checkOf content) 0 in (isWord code ≡ true) × (passes code content ≡ true)
+unfolding isWord passes
+code-chosen checked content =
+    by-cases (λ (code : ℕ). (isWord code ≡ true) × (passes code content ≡ true))
+    (λ _. (lt-ltb (checkOf content) 65536 (check-fits content), rw (eq-eqb (checkOf content) (checkOf content) refl) (or-true (eqb (checkOf content) 0))))
+    (λ _. (refl, refl))
+  where
+    or-true : (t : Bool) → (t || true) ≡ true
+    or-true true = refl
+    or-true false = refl
+
+module _ (b : Before) (deviceReply gatewayReply : List ℕ) (c : CleanStart b deviceReply gatewayReply) where
+  begun : Begun (b .version) (b .size) (b .content) (pick (b .checked) (checkOf (b .content)) 0) (gateway.startOf (b .version) (b .size) (b .content) (b .checked))
+  begun = starts (b .version) (b .size) (b .content) (b .checked) (c .ready .gateway-started)
+
+  abbrev setting : Setting
+  setting =
+      record {
+        content = b .content;
+        deviceReply = deviceReply;
+        gatewayReply = gatewayReply;
+        version = b .version;
+        size = b .size;
+        code = pick (b .checked) (checkOf (b .content)) 0;
+        first = deviceThen b;
+        device-room = c .device-room;
+        gateway-room = c .gateway-room;
+        version-good = begun .version-good;
+        size-ok = begun .size-ok;
+        length-ok = begun .length-ok;
+        code-word = code-chosen (b .checked) (b .content) .0;
+        code-passes = code-chosen (b .checked) (b .content) .1;
+        idle = c .device-idle;
+        sound = run-fine (b .lived) _ (made-fine (b .running) (b .image) (b .map) (c .ready .device-made));
+        another = same-swap _ _ (c .other-version);
+        image-room = c .image-room;
+        map-room = c .map-room;
+      }
+
+  at-start : At (start b) (deviceThen b) (gatewayIn setting gateway.offer)
+  at-start =
+      let first : Gateway = gateway.startOf (b .version) (b .size) (b .content) (b .checked) .gateway in
+      let unended : Unended first (gatewayThen b) = unended-after (b .content) first (b .asks) first (λ _. refl) in
+      let offering : gatewayThen b .phase ≡ gateway.offer = c .ready .offering in
+      record {
+        end-is = refl;
+        sound = setting .sound;
+        gateway-is =
+            unended (λ z. omega arith)
+            ∙ ap₂ gateway.inPhase offering (begun .made);
+      }
+
+pub clean-run : CleanRun
+clean-run b deviceReply gatewayReply c =
+    let s : Setting = setting b deviceReply gatewayReply c in
+    let (v, until, _) = of.fetched s (start b) (at-start b deviceReply gatewayReply c) in (
+      (v, until),
+      λ u silence.
+          let e : _ = of.succeeds s (start b) (at-start b deviceReply gatewayReply c) u silence in
+          (ap (λ (g : Gateway). g .phase) e, ap (λ (g : Gateway). g .ending) e),
+    )

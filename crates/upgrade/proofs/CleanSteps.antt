@@ -1,0 +1,154 @@
+-- The exchanges of a clean run, one after the other, on records written out. Assumes nothing.
+use Prim.Native.Nat.{ℕ, _+_, _*_, _≤_, _<_}
+use native.Mathlib.Omega.{arith}
+use mathlib.Core.Path.{_≡_, refl, subst}
+use mathlib.Core.Bool.{Bool, true, false}
+use mathlib.Core.List.{List, []}
+use lib.ListN.{length}
+use borrow.Author.Tests.{le-leb, lt-leb, lt-ltb, le-ltb, eq-eqb, ne-eqb, eqb-false}
+use Rattle.basis.specs.Choice.{pick, refusal, oneOf}
+use Rattle.basis.specs.Bytes.{same, patched}
+use Rattle.basis.proofs.Choosing.{by-cases, and-both}
+use Rattle.basis.proofs.Lists.{same-refl}
+use Rattle.message.specs.Limits.{sizeMax, isWord}
+use Rattle.message.specs.Messages.{deviceValid, announce, fragment, downloadReply, execute, resultReply, fragmentOk, gatewayValid, announceReply, fragmentRequest, downloadReport, executeReply, resultReport, installCode}
+use Rattle.message.specs.Codec.{found, refused, toGateway, said}
+use Rattle.message.specs.declared.Fields.{Fields}
+use Rattle.device.specs.declared.Device.{Device}
+use Rattle.device.specs.Record as device
+use Rattle.bitmap.specs.Bitmap.{mark, cleared}
+use Rattle.device.specs.Rules as device-rules
+use Rattle.device.proofs.Standing.{standing}
+use Rattle.device.proofs.Sound.{sound-record}
+use Rattle.gateway.specs.Record as gateway
+use Rattle.gateway.specs.Rules as gateway-rules
+use Rattle.gateway.proofs.Package.{stretch-fits}
+use Rattle.upgrade.specs.Calls.{aired, DeviceEnd, asked, installed, deviceNext, deviceSays, World, atDevice, next}
+use Rattle.upgrade.proofs.Count.{any, call-fine}
+use Rattle.upgrade.proofs.CleanSetting.{Setting, total, fields, gatewayIn, endIn, loadingAt, updatedIn, some, size-most, total-fits, total-ok}
+use Rattle.upgrade.proofs.CleanCalls.{left, At, Spoke, aired-message, asksGateway, deviceTakes, gatewayTakes, device-says, device-exchange, gateway-exchange}
+use Rattle.upgrade.proofs.CleanLoad.{Front, lowest, new, fragment-some, fragment-full, complete}
+
+-- an Idle device with another version and room takes an announcement up
+begins : (d : Device) (image map reply : List ℕ) (f : Fields) → d .phase ≡ device.idle → same (f .version) (d .running) ≡ false
+    → f .size * f .total ≤ length image → device.mapBytes (f .total) ≤ length map
+    → device-rules.onAnnounce d image map reply 0 f ≡ device-rules.begin d image map reply f
+unfolding device-rules.onAnnounce device-rules.announceResult device-rules.resumes device.holding pick
+begins d image map reply f idle another h k =
+    rw (idle, another, le-ltb (length image) (f .size * f .total) h, le-ltb (length map) (device.mapBytes (f .total)) k)
+
+module _ (s : Setting) where
+  -- ---- the announcement
+
+  taken-up : deviceTakes s (s .first) (announce (fields s))
+      ≡ device-rules.begin (s .first .device) (s .first .image) (s .first .map) (s .deviceReply) (fields s)
+  unfolding device-rules.handle
+  taken-up = begins (s .first .device) (s .first .image) (s .first .map) (s .deviceReply) (fields s) (s .idle) (s .another) (s .image-room) (s .map-room)
+
+  pub announced : (w : World) → At w (s .first) (gatewayIn s gateway.offer)
+      → At (asksGateway s w) (loadingAt s 0 (s .first .image) (cleared (device.mapBytes (total s)) (s .first .map))) (gatewayIn s gateway.serve)
+  unfolding device-rules.begin gateway-rules.wanted gateway-rules.handle gateway-rules.onAnnounceReply deviceValid gatewayValid oneOf pick
+  announced w here =
+      gateway-exchange s w (s .first) gateway.offer here refl (announce (fields s)) (announceReply 0x00)
+      refl (and-both (s .version-good) (and-both (s .size-ok) (and-both (total-ok s) (s .code-word)))) taken-up
+      (aired-message toGateway (announceReply 0x00) (s .deviceReply)) refl refl
+
+  -- ---- a fragment
+
+  module _ (k : ℕ) (image map : List ℕ) (front : Front (s .content) (s .size) (some s) k image map) (more : k < total s) where
+    abbrev bytes : List ℕ
+    bytes = gateway.fragmentOf (s .content) (s .size) k
+
+    abbrev filled : List ℕ
+    filled = patched (k * s .size) bytes image
+
+    abbrev loading : DeviceEnd
+    loading = loadingAt s k image map
+
+    abbrev storing : device-rules.After
+    storing = device-rules.store (loading .device) image map (s .deviceReply) k bytes
+
+    requests : device-rules.wanted (loading .device) map ≡ found (fragmentRequest (s .version) k)
+    unfolding device-rules.wanted pick
+    requests = rw (lowest (s .content) (s .size) (some s) k image map front more, lt-ltb k (total s) more)
+
+    served : gatewayTakes s gateway.serve (fragmentRequest (s .version) k)
+        ≡ gateway-rules.replied (gatewayIn s gateway.serve) (s .content) (s .gatewayReply) (gatewayIn s gateway.serve) (fragment 0x00 k bytes)
+    unfolding gateway-rules.handle gateway-rules.onFragmentRequest gateway-rules.fragmentReply gateway-rules.serving pick
+    served = rw (same-refl (s .version), lt-ltb k (total s) more)
+
+    ranged : 1 ≤ length bytes
+    ranged = fragment-some (s .content) (s .size) (some s) k image map front more
+
+    long : device-rules.fragmentLength (fields s) k (length bytes) ≡ true
+    unfolding device-rules.fragmentLength
+    long =
+        by-cases (λ (t : Bool). t ≡ true) (λ _. and-both (le-leb 1 (length bytes) ranged) (le-leb (length bytes) (s .size) (stretch-fits (s .content) (s .size) k)))
+        (λ n. eq-eqb (length bytes) (s .size) (fragment-full (s .content) (s .size) (some s) k image map front more (omega (arith, eqb-false (k + 1) (total s) n))))
+
+    stored : deviceTakes s loading (fragment 0x00 k bytes) ≡ storing
+    unfolding device-rules.handle device-rules.onFragment pick
+    stored = rw (lt-leb (total s) k more, long, new (s .content) (s .size) (some s) k image map front more)
+
+    fragment-valid : deviceValid (fragment 0x00 k bytes) ≡ true
+    unfolding deviceValid fragmentOk isWord pick
+    fragment-valid =
+        and-both (lt-ltb k 65536 (omega (arith, total-fits s)))
+        (and-both (le-leb 1 (length bytes) ranged) (le-leb (length bytes) sizeMax (omega (arith, stretch-fits (s .content) (s .size) k, size-most s))))
+
+    module _ (w : World) (here : At w loading (gatewayIn s gateway.serve)) where
+      fetched : Spoke s w (left storing) (gatewayIn s gateway.serve)
+      unfolding gatewayValid isWord
+      fetched =
+          device-exchange s w loading gateway.serve here refl (fragmentRequest (s .version) k) (fragment 0x00 k bytes) requests
+          (and-both (s .version-good) (lt-ltb k 65536 (omega (arith, total-fits s)))) served fragment-valid stored
+
+      -- one before the last, and the last
+      pub fetched-one : k + 1 < total s → Spoke s w (loadingAt s (k + 1) filled (mark k map)) (gatewayIn s gateway.serve)
+      unfolding device-rules.store device-rules.completion pick
+      fetched-one h = subst (λ (e : DeviceEnd). Spoke s w e (gatewayIn s gateway.serve)) after fetched
+        where
+          after : left storing ≡ loadingAt s (k + 1) filled (mark k map)
+          after = rw (ne-eqb (k + 1) (total s) (λ e. omega arith))
+
+      pub fetched-last : k + 1 ≡ total s → Spoke s w (endIn s device.loaded (k + 1) (length bytes) filled (mark k map)) (gatewayIn s gateway.serve)
+      unfolding device-rules.store device-rules.completion pick
+      fetched-last h = subst (λ (e : DeviceEnd). Spoke s w e (gatewayIn s gateway.serve)) after fetched
+        where
+          after : left storing ≡ endIn s device.loaded (k + 1) (length bytes) filled (mark k map)
+          after = rw (eq-eqb (k + 1) (total s) h, complete (s .content) (s .size) (some s) k image map front more h, s .code-passes)
+
+  -- ---- from the last fragment to the end
+
+  module _ (stored last : ℕ) (image map : List ℕ) (w : World) where
+    pub quiet : At w (endIn s device.acked stored last image map) (gatewayIn s gateway.run) → deviceSays (w .end) (asked (s .deviceReply)) ≡ []
+    unfolding device-rules.wanted said aired pick
+    quiet here = rw (here .end-is) (device-says s (endIn s device.acked stored last image map) (here .sound) (refused 9) refl)
+
+    pub reported : At w (endIn s device.loaded stored last image map) (gatewayIn s gateway.serve)
+        → Spoke s w (endIn s device.acked stored last image map) (gatewayIn s gateway.run)
+    unfolding device-rules.wanted device-rules.handle device-rules.onDownloadReply gateway-rules.handle gateway-rules.onDownloadReport deviceValid gatewayValid oneOf pick
+    reported here =
+        device-exchange s w (endIn s device.loaded stored last image map) gateway.serve here refl (downloadReport 0x00) (downloadReply 0x00) refl refl refl refl refl
+
+    pub executed : At w (endIn s device.acked stored last image map) (gatewayIn s gateway.run)
+        → At (asksGateway s w) (endIn s device.installing stored last image map) (gatewayIn s gateway.run)
+    unfolding gateway-rules.wanted gateway-rules.handle gateway-rules.onExecuteReply device-rules.handle device-rules.onExecute device-rules.executeResult deviceValid gatewayValid oneOf pick
+    executed here =
+        gateway-exchange s w (endIn s device.acked stored last image map) gateway.run here refl execute (executeReply 0x00) refl refl refl
+        (aired-message toGateway (executeReply 0x00) (s .deviceReply)) refl refl
+
+    pub finished : At w (endIn s device.installing stored last image map) (gatewayIn s gateway.run)
+        → At (next (s .content) w (atDevice (installed 0x00))) (updatedIn s device.reporting stored last image map) (gatewayIn s gateway.run)
+    unfolding next deviceNext device-rules.installFinishedOf refusal installCode oneOf pick
+    finished here =
+        let e : DeviceEnd = endIn s device.installing stored last image map in
+        let good : device.recordOk (e .device) ≡ true = sound-record (standing any) (e .device) image map (here .sound) in
+        rw (here .end-is, good) record { end-is = refl; gateway-is = here .gateway-is; sound = rw good at (call-fine e (installed 0x00) (here .sound)) }
+
+    pub succeeded : At w (updatedIn s device.reporting stored last image map) (gatewayIn s gateway.run)
+        → Spoke s w (updatedIn s device.idle stored last image map) (gatewayIn s gateway.ended)
+    unfolding device-rules.wanted device-rules.handle device-rules.onResultReply gateway-rules.handle gateway-rules.onResultReport deviceValid gatewayValid installCode oneOf pick
+    succeeded here =
+        device-exchange s w (updatedIn s device.reporting stored last image map) gateway.run here refl (resultReport 0x00 (s .version)) (resultReply 0x00)
+        refl (s .version-good) (rw (same-refl (s .version))) refl refl

@@ -1,0 +1,213 @@
+-- Demand 3: the theorem. Assumes nothing.
+use Prim.Native.Nat.{ℕ, _*_, _<_}
+use native.Mathlib.Omega.{arith}
+use mathlib.Core.Path.{_≡_, refl, sym, _∙_, ap, subst}
+use mathlib.Core.Bool.{true}
+use mathlib.Core.List.{List, [], _∷_, _++_}
+use mathlib.Core.Logic.{_⊎_, inl, inr}
+use lib.ListN.{length, take, drop, getD}
+use Rattle.basis.specs.Choice.{pick}
+use Rattle.checksum.specs.Check.{checkOf}
+use Rattle.message.specs.declared.Fields.{Fields}
+use Rattle.message.specs.Messages.{execute, executeReply, gatewayData}
+use Rattle.message.specs.Codec.{found, toDevice, toGateway, sealed, frame, bytesOf}
+use Rattle.device.specs.declared.Device.{Device}
+use Rattle.device.specs.Record.{idle, loading, loaded, acked, failed}
+use Rattle.device.proofs.Views
+use Rattle.device.proofs.Views.{Input, hears, Out, spoken}
+use Rattle.device.proofs.Standing.{standing-under, package-stands}
+use Rattle.gateway.specs.declared.Gateway.{Gateway}
+use Rattle.gateway.specs.Record as gateway
+use Rattle.message.specs.Limits.{sizeOk}
+use Rattle.device.proofs.Ranges.{size-range}
+use Rattle.gateway.proofs.Package.{starts, total-covers, fragment-is}
+use Rattle.upgrade.specs.Fold.{after, Allowed}
+use Rattle.upgrade.specs.Calls.{DeviceEnd, DeviceCall, given, asked, installed, GatewayCall, gatewayNext, World, Call, atDevice, atGateway, next, May}
+use Rattle.upgrade.specs.Demand3.{Before, made, deviceThen, gatewayThen, heldThen, Ready, start, worldAfter, Executed, ExecutedImage, InstalledBefore, Demand3}
+use Rattle.upgrade.proofs.Folds.{after-append, allowed-front, allowed-rest, always}
+use Rattle.upgrade.proofs.Air.{air-none}
+use Rattle.upgrade.proofs.Run.{Plan, Stretch, Run, untaken, taken, run-later}
+use Rattle.upgrade.proofs.DeviceCalls.{StillAt, DoesAt, holding-busy, inputOf, outIn, call-does, next-is, says-is}
+use Rattle.upgrade.proofs.GatewaySteps.{heardIn, gateway-turns, offer-kept}
+use Rattle.upgrade.proofs.DeviceSteps.{not-success}
+use Rattle.upgrade.proofs.Life.{Among, Lived, lived, lived-fresh}
+use Rattle.upgrade.proofs.History.{ExecutedIn, executed-later, executed-now, installed-later, installed-now}
+use Rattle.upgrade.proofs.Worlds.{device-hears, gateway-keeps, device-keeps}
+
+-- ---- Execute answered 00: the phases in which it is, and that the image stays
+
+abbrev Full : Device → Type 0
+Full d = (d .phase ≡ idle → ⊥) × (d .phase ≡ loading → ⊥) × (d .phase ≡ failed → ⊥)
+
+reply-zero : (result : ℕ) → spoken (executeReply result) ≡ spoken (executeReply 0x00) → result ≡ 0
+unfolding bytesOf frame sealed gatewayData
+reply-zero result e = ap (λ (l : List (List ℕ)). getD (getD l 0 []) 8 0) e
+
+-- a size in range is not 0
+size-some : (size : ℕ) → sizeOk size ≡ true → 0 < size
+size-some size e = omega (arith, size-range size e)
+
+module _ (e : DeviceEnd) (condition : ℕ) (input : Input) (i : input ≡ hears condition (found execute)) where
+  still-answered : (n : ℕ) (says : List (List ℕ)) → says ≡ spoken (executeReply 0x00) → StillAt e input n says → Full (e .device)
+  still-answered n says s (Views.refuses z q) = absurd (let z : _≡_ {A = ℕ} 0 1 = cc in omega arith)
+  still-answered n says s (Views.unread c j q) = absurd (let z : _≡_ {A = ℕ} 0 1 = cc in omega arith)
+  still-answered n says s (Views.skips c index bytes j z q) = absurd (let z : _≡_ {A = ℕ} 0 1 = cc in omega arith)
+  still-answered n says s (Views.queried c j z q) = absurd (let z : _≡_ {A = ℕ} 0 1 = cc in omega arith)
+  still-answered n says s (Views.declines c a result j r nz z q) = absurd (let z : _≡_ {A = ℕ} 0 1 = cc in omega arith)
+  still-answered n says s (Views.continues c a j r z q) = absurd (let z : _≡_ {A = ℕ} 0 1 = cc in omega arith)
+  still-answered n says s (Views.delays c result j nz z q) = absurd (nz (reply-zero result (sym q ∙ s)))
+  still-answered n says s (Views.executes-on c j l z q) = omega arith
+  still-answered n says s (Views.requests j l k z q) = absurd (let z : _≡_ {A = ℕ} 0 1 = cc in omega arith)
+  still-answered n says s (Views.says-loaded j l z q) = absurd (let z : _≡_ {A = ℕ} 0 1 = cc in omega arith)
+  still-answered n says s (Views.says-failed j l z q) = absurd (let z : _≡_ {A = ℕ} 0 1 = cc in omega arith)
+  still-answered n says s (Views.says-result j l z q) = absurd (let z : _≡_ {A = ℕ} 0 1 = cc in omega arith)
+
+  answered : (o : Out) → o .says ≡ spoken (executeReply 0x00) → DoesAt e input o → Full (e .device) × (o .image ≡ e .image)
+  answered o s (Views.still n says x q) = (still-answered n says (sym (ap (λ (z : Out). z .says) q) ∙ s) x, ap (λ (z : Out). z .image) q)
+  answered o s (Views.begins c a j b q) = absurd (let z : _≡_ {A = ℕ} 0 1 = cc in omega arith)
+  answered o s (Views.stores c index bytes j x q) = absurd (let z : _≡_ {A = ℕ} 0 1 = cc in omega arith)
+  answered o s (Views.moves phase m q) = absurd (silent (sym (ap (λ (z : Out). z .says) q) ∙ s))
+    where
+      silent : [] ≡ spoken (executeReply 0x00) → ⊥
+      silent r = let z : _≡_ {A = ℕ} 0 1 = cc in omega arith
+  answered o s (Views.executes c j l q) = (full l, ap (λ (z : Out). z .image) q)
+    where
+      full : (e .device .phase ≡ loaded) ⊎ (e .device .phase ≡ acked) → Full (e .device)
+      full (inl r) = omega arith
+      full (inr r) = omega arith
+  answered o s (Views.reports code j l ok q) = absurd (let z : _≡_ {A = ℕ} 0 1 = cc in omega arith)
+
+-- ---- what the gateway offers
+
+offer-then : (content : List ℕ) (cs : List GatewayCall) (g : Gateway)
+    → gateway.offered (after (gatewayNext content) g cs) ≡ gateway.offered g
+offer-then content [] g = refl
+offer-then content (c ∷ cs) g =
+    offer-then content cs (gatewayNext content g c) ∙ offer-kept content g (gatewayNext content g c) (heardIn c) (gateway-turns content g c)
+
+module _ (b : Before) (ready : Ready b) where
+  offer-is : gateway.offered (gatewayThen b)
+      ≡ gateway.offered (gateway.started (b .version) (b .size) (length (b .content)) (pick (b .checked) (checkOf (b .content)) 0))
+  offer-is =
+      offer-then (b .content) (b .asks) _
+      ∙ ap gateway.offered (starts (b .version) (b .size) (b .content) (b .checked) (ready .gateway-started) .made)
+
+  some : 0 < gateway.offered (gatewayThen b) .size
+  some =
+      subst (λ (x : Fields). 0 < x .size) (sym offer-is)
+      (size-some (b .size) (starts (b .version) (b .size) (b .content) (b .checked) (ready .gateway-started) .size-ok))
+
+  total : gateway.offered (gatewayThen b) .total ≡ gateway.totalOf (length (b .content)) (gateway.offered (gatewayThen b) .size)
+  total = subst (λ (x : Fields). x .total ≡ gateway.totalOf (length (b .content)) (x .size)) (sym offer-is) refl
+
+  abbrev plan : Plan
+  plan =
+      record {
+        content = b .content;
+        offer = gateway.offered (gatewayThen b);
+        image = deviceThen b .image;
+        Held = Among (heldThen b .fragments);
+        size-some = some;
+        total-is = total;
+      }
+
+  -- ---- the invariant, along the run
+
+  record Inv (calls : List Call) (w : World) : Type 0 where
+    offer : gateway.offered (w .gateway) ≡ gateway.offered (gatewayThen b)
+    run : Run plan w (ExecutedIn b calls) (InstalledBefore b calls)
+
+  at-start : Inv [] (start b)
+  at-start =
+      let l : Lived (deviceThen b) (heldThen b) =
+      lived (b .lived) (made b) _ (lived-fresh (b .running) (b .image) (b .map) _ (ready .device-made)) in
+      record {
+        offer = refl;
+        run = untaken record {
+          offering = inl (ready .offering);
+          said = air-none toDevice;
+          heard = air-none toGateway;
+          sound = l .sound;
+          resumable = λ h e index bytes m.
+              ready .held h (l .fields-are (holding-busy _ h) ∙ e) index bytes m
+              ∙ ap (λ (x : Fields). gateway.fragmentOf (b .content) (x .size) index) (sym offer-is);
+          image-kept = refl;
+        };
+      }
+
+  keeps : (calls : List Call) (c : Call) → Inv calls (worldAfter b calls) → May (worldAfter b calls) c
+      → Inv (calls ++ (c ∷ [])) (next (b .content) (worldAfter b calls) c)
+  unfolding next
+  keeps calls (atDevice c) i m =
+      record {
+        offer = i .offer;
+        run = device-keeps plan (worldAfter b calls) c (executed-later b calls (atDevice c)) (installed-later b calls (atDevice c))
+            (executed-now b calls (atDevice c)) (λ x h n. installed-now b calls (atDevice c) h x n) m (i .run);
+      }
+  keeps calls (atGateway c) i m =
+      let g : Gateway = worldAfter b calls .gateway in
+      record {
+        offer = offer-kept (b .content) g _ (heardIn c) (gateway-turns (b .content) g c) ∙ i .offer;
+        run = run-later plan _ (executed-later b calls (atGateway c)) (installed-later b calls (atGateway c))
+            (gateway-keeps plan (worldAfter b calls) c (i .offer) m (i .run));
+      }
+
+  abbrev Allows : List Call → Type 0
+  Allows calls = Allowed (next (b .content)) May (start b) calls
+
+  inv : (calls : List Call) → Allows calls → Inv calls (worldAfter b calls)
+  inv = always (next (b .content)) May Inv (start b) keeps at-start
+
+  -- ---- what it tells
+
+  module _ {E I : Type 0} (w : World) where
+    -- past the package the image is as at the start
+    past : Run plan w E I → drop (length (b .content)) (w .end .image) ≡ drop (length (b .content)) (deviceThen b .image)
+    past (untaken u) = ap (drop (length (b .content))) (u .image-kept)
+    past (taken t) = t .past-kept
+
+    success : Run plan w E I → w .gateway .phase ≡ gateway.ended → w .gateway .ending ≡ 0 → I
+    success (untaken u) q z = absurd (not-success (w .gateway) (u .offering) q z)
+    success (taken t) q z = t .success q z
+
+    -- a device that is full, and is given Execute, has the package
+    package-there : (c : DeviceCall) (condition : ℕ) → May w (atDevice c) → inputOf c ≡ hears condition (found execute) → Full (w .end .device)
+        → Run plan w E I → take (length (b .content)) (w .end .image) ≡ b .content
+    package-there c condition m k full (untaken u) = absurd (device-hears w c (u .said) m condition execute k)
+    package-there c condition m k full (taken t) =
+        let d : Device = w .end .device in
+        package-stands (b .content) d (w .end .image) (w .end .map)
+        (standing-under (Stretch plan) (λ index bytes. bytes ≡ take (d .fields .size) (drop (index * d .fields .size) (b .content)))
+        d (w .end .image) (w .end .map) (λ _ index bytes _ q. rw (t .fields-are) (q ∙ fragment-is (b .content) _ index)) (t .sound))
+        (rw (t .fields-are) (rw total (total-covers (length (b .content)) _ some))) (full .0) (full .1) (full .2)
+
+    answered-image : (c : Call) → Run plan w E I → May w c → Executed w c
+        → take (length (b .content)) (next (b .content) w c .end .image) ≡ b .content
+    unfolding next
+    answered-image (atDevice (given supported pcp condition message reply)) r m x =
+        let c : DeviceCall = given supported pcp condition message reply in
+        let k : inputOf c ≡ hears condition (found execute) = ap (hears condition) (x .0) in
+        let a : Full (w .end .device) × (outIn (w .end) c .image ≡ w .end .image) =
+        answered (w .end) condition (inputOf c) k (outIn (w .end) c) (sym (says-is (w .end) c) ∙ x .1) (call-does (w .end) c) in
+        ap (λ (e : DeviceEnd). take (length (b .content)) (e .image)) (next-is (w .end) c) ∙ ap (take (length (b .content))) (a .1)
+        ∙ package-there c condition m k (a .0) r
+    answered-image (atDevice (asked reply)) r m x = absurd x
+    answered-image (atDevice (installed code)) r m x = absurd x
+    answered-image (atGateway c) r m x = absurd x
+
+  -- ---- the first half
+
+  executed-image : (calls : List Call) → Allows calls → ExecutedImage b calls
+  executed-image calls a earlier last split x =
+      let a′ : Allows (earlier ++ (last ∷ [])) = subst Allows split a in (
+        rw (split, after-append (next (b .content)) (start b) earlier (last ∷ []))
+            (answered-image (worldAfter b earlier) last
+            (inv earlier (allowed-front (next (b .content)) May (start b) earlier (last ∷ []) a′) .run)
+            (allowed-rest (next (b .content)) May (start b) earlier (last ∷ []) a′ .0) x),
+        λ some rest e.
+            past (worldAfter b some) (inv some (allowed-front (next (b .content)) May (start b) some rest (subst Allows e a)) .run),
+      )
+
+pub demand-3 : Demand3
+demand-3 b ready calls a =
+    (executed-image b ready calls a, λ q z. success b ready (worldAfter b calls) (inv b ready calls a .run) q z)

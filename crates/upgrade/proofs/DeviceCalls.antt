@@ -1,0 +1,127 @@
+-- The device's calls as its view has them, and what is known of its phases. Assumes nothing.
+use Prim.Native.Nat.{ℕ, _≤_, _<_}
+use native.Mathlib.Omega.{arith}
+use mathlib.Core.Path.{_≡_, refl}
+use mathlib.Core.Bool.{true, false}
+use mathlib.Core.List.{List, []}
+use mathlib.Core.Logic.{_⊎_, inl, inr}
+use lib.Dec.{leb}
+use borrow.Author.Tests.{eqb-false, leb-true, not-true}
+use Rattle.basis.specs.Bytes.{same}
+use Rattle.basis.proofs.Choosing.{by-cases, and-left, and-right}
+use Rattle.message.specs.declared.Fields.{Fields}
+use Rattle.message.specs.Messages.{announceReply}
+use Rattle.message.specs.Codec.{toDevice, readOf}
+use Rattle.device.specs.declared.Device.{Device}
+use Rattle.device.specs.Record.{idle, loading, loaded, acked, failed, installing, holding, inPhase, begun, ended, mapBytes}
+use Rattle.bitmap.specs.Bitmap.{cleared}
+use Rattle.device.specs.Rules.{announceResult, completion}
+use Rattle.device.proofs.Views
+use Rattle.device.proofs.Views.{Input, hears, asks, installs, Out, out, spoken, storedOut, receiveOut, askOut, installOut, Begins, Resumes, Stores, Still, Moves, Does, receive-does, ask-does, install-does}
+use Rattle.upgrade.specs.Calls.{DeviceEnd, DeviceCall, given, asked, installed, aired, deviceNext, deviceSays}
+
+-- the end that a call leaves
+abbrev pub endOf : Out → DeviceEnd
+endOf o = record { device = o .device; image = o .image; map = o .map }
+
+-- the view's outcomes, of an end
+abbrev pub DoesAt : DeviceEnd → Input → Out → Type 0
+DoesAt e = Does (e .device) (e .image) (e .map)
+
+abbrev pub StillAt : DeviceEnd → Input → (n : ℕ) (says : List (List ℕ)) → Type 0
+StillAt e = Still (e .device) (e .image) (e .map)
+
+abbrev pub BeginsAt : DeviceEnd → (condition : ℕ) → Fields → Type 0
+BeginsAt e = Begins (e .device) (e .image) (e .map)
+
+abbrev pub ResumesAt : DeviceEnd → (condition : ℕ) → Fields → Type 0
+ResumesAt e = Resumes (e .device) (e .image) (e .map)
+
+abbrev pub StoresAt : DeviceEnd → (index : ℕ) → List ℕ → Type 0
+StoresAt e = Stores (e .device) (e .image) (e .map)
+
+abbrev pub MovesAt : DeviceEnd → Input → (phase : ℕ) → Type 0
+MovesAt e = Moves (e .device) (e .image) (e .map)
+
+-- what they leave
+abbrev pub stillAt : DeviceEnd → (n : ℕ) (says : List (List ℕ)) → Out
+stillAt e n says = out n (e .device) (e .image) (e .map) says
+
+abbrev pub begunAt : DeviceEnd → Fields → Out
+begunAt e a = out 0 (begun a (e .device)) (e .image) (cleared (mapBytes (a .total)) (e .map)) (spoken (announceReply 0x00))
+
+abbrev pub storedAt : DeviceEnd → (index : ℕ) → List ℕ → Out
+storedAt e = storedOut (e .device) (e .image) (e .map)
+
+abbrev pub movedAt : DeviceEnd → (phase : ℕ) (says : List (List ℕ)) → Out
+movedAt e phase says = out 0 (inPhase phase (e .device)) (e .image) (e .map) says
+
+abbrev pub endedAt : DeviceEnd → (code : ℕ) (running : List ℕ) → Out
+endedAt e code running = out 0 (ended code running (e .device)) (e .image) (e .map) []
+
+-- ---- a call
+
+abbrev pub inputOf : DeviceCall → Input
+inputOf (given supported pcp condition message reply) = hears condition (readOf toDevice supported pcp message)
+inputOf (asked reply) = asks
+inputOf (installed code) = installs code
+
+abbrev pub outIn : DeviceEnd → DeviceCall → Out
+outIn e (given supported pcp condition message reply) = receiveOut (e .device) (e .image) (e .map) reply supported pcp condition message
+outIn e (asked reply) = askOut (e .device) (e .image) (e .map) reply
+outIn e (installed code) = installOut (e .device) (e .image) (e .map) code
+
+pub call-does : (e : DeviceEnd) (c : DeviceCall) → DoesAt e (inputOf c) (outIn e c)
+call-does e (given supported pcp condition message reply) =
+    receive-does (e .device) (e .image) (e .map) reply supported pcp condition message
+call-does e (asked reply) = ask-does (e .device) (e .image) (e .map) reply
+call-does e (installed code) = install-does (e .device) (e .image) (e .map) code
+
+pub next-is : (e : DeviceEnd) (c : DeviceCall) → deviceNext e c ≡ endOf (outIn e c)
+unfolding deviceNext
+next-is e (given supported pcp condition message reply) = refl
+next-is e (asked reply) = refl
+next-is e (installed code) = refl
+
+pub says-is : (e : DeviceEnd) (c : DeviceCall) → deviceSays e c ≡ outIn e c .says
+unfolding deviceSays aired
+says-is e (given supported pcp condition message reply) = refl
+says-is e (asked reply) = refl
+says-is e (installed code) = refl
+
+-- a phase to which the device moves without a word
+abbrev pub Moved : Device → (phase : ℕ) → Type 0
+Moved d phase = (phase ≡ idle) ⊎ ((phase ≡ acked) × (d .phase ≡ loaded))
+
+pub moves-to : (e : DeviceEnd) (input : Input) (phase : ℕ) → MovesAt e input phase → Moved (e .device) phase
+moves-to e input phase (Views.gives-up c index bytes i p q) = inl q
+moves-to e input phase (Views.acknowledged c i p q) = inr (q, p)
+moves-to e input phase (Views.rejected c result i n p q) = inl q
+moves-to e input phase (Views.abandons c result i p q) = inl q
+moves-to e input phase (Views.reported c result i p q) = inl q
+
+-- ---- phases
+
+pub holding-below : (phase : ℕ) → holding phase ≡ true → phase < installing
+unfolding holding
+holding-below phase h = omega (arith, leb-true phase acked (and-right (leb loading phase) _ h))
+
+pub holding-busy : (phase : ℕ) → holding phase ≡ true → phase ≡ idle → ⊥
+unfolding holding
+holding-busy phase h e = omega (arith, leb-true loading phase (and-left (leb loading phase) _ h))
+
+pub completion-low : (stored last : ℕ) (a : Fields) (image : List ℕ) → completion stored last a image ≤ failed
+unfolding completion
+completion-low stored last a image =
+    by-cases (λ (p : ℕ). p ≤ failed) (λ _. by-cases (λ (p : ℕ). p ≤ failed) (λ _. omega arith) (λ _. omega arith)) (λ _. omega arith)
+
+-- an announcement answered 00 is not of the running version
+pub other-version : (d : Device) (condition : ℕ) (a : Fields) (image map : List ℕ) → announceResult d condition a image map ≡ 0
+    → same (a .version) (d .running) ≡ false
+unfolding announceResult
+other-version d condition a image map =
+    by-cases P (λ _ z. absurd (omega arith))
+    (λ _. by-cases P (λ t z. absurd (eqb-false condition 0 (not-true _ t) z)) (λ _. by-cases P (λ _ z. absurd (omega arith)) (λ t _. t)))
+  where
+    P : ℕ → Type 0
+    P n = n ≡ 0 → same (a .version) (d .running) ≡ false

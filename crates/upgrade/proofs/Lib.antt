@@ -1,0 +1,17 @@
+pub mod Count
+pub mod Folds
+pub mod Air
+pub mod Run
+pub mod GatewaySteps
+pub mod DeviceCalls
+pub mod DeviceSteps
+pub mod Life
+pub mod History
+pub mod Worlds
+pub mod Demand3
+pub mod CleanSetting
+pub mod CleanCalls
+pub mod CleanLoad
+pub mod CleanSteps
+pub mod CleanCourse
+pub mod CleanRun

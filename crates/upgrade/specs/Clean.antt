@@ -1,0 +1,75 @@
+-- The clean run of 01, "The gateway": each message and its reply arrive once, before the next ask. Assumes nothing.
+use Prim.Native.Nat.{ℕ, _*_, _≤_}
+use mathlib.Core.Path.{_≡_}
+use mathlib.Core.Bool.{Bool, true, false}
+use mathlib.Core.List.{List, [], _∷_}
+use lib.ListN.{length}
+use Rattle.basis.specs.Bytes.{same}
+use Rattle.message.specs.Limits.{deviceRoom, gatewayRoom}
+use Rattle.device.specs.Record.{idle, mapBytes}
+use Rattle.gateway.specs.Record as gateway
+use Rattle.upgrade.specs.Calls.{DeviceCall, given, asked, installed, deviceSays, GatewayCall, gatewaySays, World, Call, atDevice, atGateway, next}
+use Rattle.upgrade.specs.Demand3.{Before, Ready, deviceThen, gatewayThen, start}
+
+module _ (content deviceReply gatewayReply : List ℕ) where
+  -- messages that arrive at an end, both facts yes, condition 0
+  unfoldable pub arriveAtDevice : World → List (List ℕ) → World
+  arriveAtDevice w [] = w
+  arriveAtDevice w (m ∷ ms) = arriveAtDevice (next content w (atDevice (given true true 0 m deviceReply))) ms
+
+  unfoldable pub arriveAtGateway : World → List (List ℕ) → World
+  arriveAtGateway w [] = w
+  arriveAtGateway w (m ∷ ms) = arriveAtGateway (next content w (atGateway (GatewayCall.given true true m gatewayReply))) ms
+
+  -- a message arrives and its reply, where there is one, comes back
+  unfoldable pub answeredByDevice : World → List (List ℕ) → World
+  answeredByDevice w [] = w
+  answeredByDevice w (m ∷ ms) =
+      let c : DeviceCall = given true true 0 m deviceReply in
+      answeredByDevice (arriveAtGateway (next content w (atDevice c)) (deviceSays (w .end) c)) ms
+
+  unfoldable pub answeredByGateway : World → List (List ℕ) → World
+  answeredByGateway w [] = w
+  answeredByGateway w (m ∷ ms) =
+      let c : GatewayCall = GatewayCall.given true true m gatewayReply in
+      answeredByGateway (arriveAtDevice (next content w (atGateway c)) (gatewaySays content (w .gateway) c)) ms
+
+  -- an end is asked once
+  unfoldable pub gatewayAsked : World → World
+  gatewayAsked w =
+      let c : GatewayCall = GatewayCall.asked gatewayReply in
+      answeredByDevice (next content w (atGateway c)) (gatewaySays content (w .gateway) c)
+
+  unfoldable pub deviceAsked : World → World
+  deviceAsked w =
+      let c : DeviceCall = asked deviceReply in
+      answeredByGateway (next content w (atDevice c)) (deviceSays (w .end) c)
+
+  -- the device is asked until it has nothing to send
+  pub data UntilSilent : World → World → Type 0 where
+    silent : {w : World} → deviceSays (w .end) (asked deviceReply) ≡ [] → UntilSilent w w
+    spoken : {w v : World} → (deviceSays (w .end) (asked deviceReply) ≡ [] → ⊥) → UntilSilent (deviceAsked w) v → UntilSilent w v
+
+  -- the gateway is asked once in Run, the installer reports 00, the device is asked once more
+  abbrev pub ending : World → World
+  ending v = deviceAsked (next content (gatewayAsked v) (atDevice (installed 0x00)))
+
+-- The device starts Idle with another version, and all buffers are long enough.
+pub record CleanStart (b : Before) (deviceReply gatewayReply : List ℕ) : Type 0 where
+  pub ready : Ready b
+  pub device-idle : deviceThen b .device .phase ≡ idle
+  pub other-version : same (deviceThen b .device .running) (b .version) ≡ false
+  pub image-room : b .size * gateway.totalOf (length (b .content)) (b .size) ≤ length (deviceThen b .image)
+  pub map-room : mapBytes (gateway.totalOf (length (b .content)) (b .size)) ≤ length (deviceThen b .map)
+  pub device-room : deviceRoom ≤ length deviceReply
+  pub gateway-room : gatewayRoom ≤ length gatewayReply
+
+-- The clean run comes to an end, and every way in which it does leaves the gateway Ended with 0.
+abbrev pub CleanRun : Type 0
+CleanRun =
+    (b : Before) (deviceReply gatewayReply : List ℕ) → CleanStart b deviceReply gatewayReply →
+    let first : World = gatewayAsked (b .content) deviceReply gatewayReply (start b) in
+    ((v : World) × UntilSilent (b .content) deviceReply gatewayReply first v)
+    × ((v : World) → UntilSilent (b .content) deviceReply gatewayReply first v →
+        (ending (b .content) deviceReply gatewayReply v .gateway .phase ≡ gateway.ended)
+        × (ending (b .content) deviceReply gatewayReply v .gateway .ending ≡ 0))

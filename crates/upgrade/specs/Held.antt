@@ -1,0 +1,43 @@
+-- Held, of 01's "Runs of demand 3": the fragments that the device stored since map bytes were last zeroed, and the fields of the
+-- announcement that zeroed them, worked out along the device's calls. Assumes nothing.
+use Prim.Native.Nat.{ℕ}
+use mathlib.Core.Bool.{_&&_, not}
+use mathlib.Core.List.{List, [], _∷_}
+use lib.Dec.{eqb}
+use Rattle.basis.specs.Choice.{pick}
+use Rattle.message.specs.Messages.{DeviceMessage, query, announce, fragment, downloadReply, execute, resultReply}
+use Rattle.message.specs.Codec.{Reading, found, refused, toDevice, readOf}
+use Rattle.message.specs.declared.Fields.{Fields}
+use Rattle.device.specs.Rules.{announceResult, resumes}
+use Rattle.upgrade.specs.Calls.{DeviceEnd, DeviceCall, given, asked, installed, deviceAnswer, deviceNext}
+
+pub record Held : Type 0 where
+  pub fields : Fields
+  pub fragments : List (ℕ × List ℕ)
+
+-- what a message that is answered 0 does to it: an announcement taken up afresh empties it, a fragment with 00 joins it
+unfoldable pub heldBy : DeviceEnd → (condition : ℕ) → Reading DeviceMessage → Held → Held
+heldBy e condition (refused n) h = h
+heldBy e condition (found query) h = h
+heldBy e condition (found (announce f)) h =
+    pick (eqb (announceResult (e .device) condition f (e .image) (e .map)) 0 && not (resumes (e .device) f))
+    (record { fields = f; fragments = [] })
+    h
+heldBy e condition (found (fragment result index bytes)) h =
+    pick (eqb result 0x00) (record { fields = h .fields; fragments = (index, bytes) ∷ h .fragments }) h
+heldBy e condition (found (downloadReply result)) h = h
+heldBy e condition (found execute) h = h
+heldBy e condition (found (resultReply result)) h = h
+
+unfoldable pub heldNext : DeviceEnd → DeviceCall → Held → Held
+heldNext e (given supported pcp condition message reply) h =
+    pick (eqb (deviceAnswer e supported pcp condition message reply .number) 0)
+    (heldBy e condition (readOf toDevice supported pcp message) h)
+    h
+heldNext e (asked reply) h = h
+heldNext e (installed code) h = h
+
+-- along a list of calls
+unfoldable pub heldAfter : DeviceEnd → Held → List DeviceCall → Held
+heldAfter e h [] = h
+heldAfter e h (c ∷ cs) = heldAfter (deviceNext e c) (heldNext e c h) cs

@@ -1,0 +1,5 @@
+pub mod Fold
+pub mod Calls
+pub mod Held
+pub mod Demand3
+pub mod Clean
