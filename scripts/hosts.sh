@@ -17,9 +17,13 @@ need() {
     DEBIAN_FRONTEND=noninteractive apt-get install -y "${missing[@]}" >&2
 }
 
+# rust_program SOURCE PROGRAM FLAG..: builds a Rust program.
+rust_program() {
+    mkdir -p target/hosts
+    rustc --edition 2021 -C opt-level=3 -D warnings -o "target/hosts/$2" "$1" "${@:3}"
+}
+
 # rust_host SOURCE PROGRAM: builds a Rust program that links the library.
 rust_host() {
-    mkdir -p target/hosts
-    rustc --edition 2021 -C opt-level=3 -D warnings -o "target/hosts/$2" "$1" \
-        -L native=target/staticlib -l static=host
+    rust_program "$1" "$2" -L native=target/staticlib -l static=host
 }

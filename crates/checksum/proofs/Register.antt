@@ -70,9 +70,11 @@ step-by-table table r b e = ap (bitXor (r / 256)) (rw e (entry-at (bitXor r b % 
 pub turn : (table bytes : List ℕ) (start r i : ℕ) → table ≡ entries → r < 65536 → i < length bytes → register r (drop i bytes) ≡ register start bytes
     → let new : ℕ = bitXor (r / 256) (getD table (bitXor r (getD bytes i 0) % 256) 0) in
     (i + 1 ≤ length bytes) × (new < 65536) × (register new (drop (i + 1) bytes) ≡ register start bytes)
-turn table bytes start r i e h k inv =
-    (omega arith, rw (step-by-table table r (getD bytes i 0) e) (step-fits r (getD bytes i 0) h),
-    rw (step-by-table table r (getD bytes i 0) e, ← register-more bytes r i k) inv)
+turn table bytes start r i e h k inv = (
+  omega arith,
+  rw (step-by-table table r (getD bytes i 0) e) (step-fits r (getD bytes i 0) h),
+  rw (step-by-table table r (getD bytes i 0) e, ← register-more bytes r i k) inv,
+)
 
 -- the loop's end: no byte is left
 pub ended : (bytes : List ℕ) (start r i : ℕ) → length bytes ≤ i → register r (drop i bytes) ≡ register start bytes → r ≡ register start bytes
@@ -110,7 +112,10 @@ pub check-by-parts : (m : List ℕ) (f g before within r : ℕ) → f ≡ min (l
 unfolding messageCheck checkOf
 check-by-parts m f g before within r p q e₁ e₂ e₃ =
     let whole : r ≡ register 0 (zeroed m) =
-        rw (zeroed-parts m f g p q, register-append (take f m) (take (g - f) (0 ∷ 0 ∷ []) ++ drop g m) 0,
-            register-append (take (g - f) (0 ∷ 0 ∷ [])) (drop g m) (register 0 (take f m)))
-        (rw (e₃, e₂, e₁, rest-is g m, sub-zero, sub-zero)) in
+    rw (
+      zeroed-parts m f g p q,
+      register-append (take f m) (take (g - f) (0 ∷ 0 ∷ []) ++ drop g m) 0,
+      register-append (take (g - f) (0 ∷ 0 ∷ [])) (drop g m) (register 0 (take f m)),
+    )
+    (rw (e₃, e₂, e₁, rest-is g m, sub-zero, sub-zero)) in
     narrowed (zeroed m) 0 r (omega arith) whole

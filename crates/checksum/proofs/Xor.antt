@@ -30,9 +30,9 @@ xor-assoc a b c =
     bin-ind (λ (n : ℕ). (b c : ℕ) → bitXor (bitXor n b) c ≡ bitXor n (bitXor b c))
     (λ b c. ap (λ (x : ℕ). bitXor x c) (xor-zero-l b) ∙ sym (xor-zero-l (bitXor b c)))
     (λ n ih b c.
-        xor-step (bitXor n b) c
-        ∙ ap₂ (λ (x y : ℕ). x * 2 + y)
-            (ap (λ (x : ℕ). bitXor x (c / 2)) (xor-shr n b 1) ∙ ih (b / 2) (c / 2) ∙ ap (bitXor (n / 2)) (sym (xor-shr b c 1)))
-            (ap (λ (x : ℕ). differ x (c % 2)) (xor-bit n b) ∙ bits-regroup (n % 2) (b % 2) (c % 2) (omega arith) (omega arith) (omega arith)
-            ∙ ap (differ (n % 2)) (sym (xor-bit b c)))
-        ∙ sym (xor-step n (bitXor b c))) a b c
+    xor-step (bitXor n b) c
+    ∙ ap₂ (λ (x y : ℕ). x * 2 + y)
+    (ap (λ (x : ℕ). bitXor x (c / 2)) (xor-shr n b 1) ∙ ih (b / 2) (c / 2) ∙ ap (bitXor (n / 2)) (sym (xor-shr b c 1)))
+    (ap (λ (x : ℕ). differ x (c % 2)) (xor-bit n b) ∙ bits-regroup (n % 2) (b % 2) (c % 2) (omega arith) (omega arith) (omega arith)
+    ∙ ap (differ (n % 2)) (sym (xor-bit b c)))
+    ∙ sym (xor-step n (bitXor b c))) a b c

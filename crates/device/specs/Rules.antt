@@ -84,13 +84,13 @@ module _ (d : Device) (image map reply : List ℕ) where
   unfoldable pub begin : Fields → After
   begin f =
       let m : GatewayMessage = announceReply 0x00 in
-      record
-      { number = 0
-      ; length = length (bytesOf toGateway m)
-      ; device = begun f d
-      ; image = image
-      ; map = cleared (mapBytes (f .total)) map
-      ; reply = over (bytesOf toGateway m) reply
+      record {
+        number = 0;
+        length = length (bytesOf toGateway m);
+        device = begun f d;
+        image = image;
+        map = cleared (mapBytes (f .total)) map;
+        reply = over (bytesOf toGateway m) reply;
       }
 
   -- 21 with 00, in range and new: the data at its place, the bit set, the count grown, the phase by what is then complete
@@ -99,13 +99,13 @@ module _ (d : Device) (image map reply : List ℕ) where
       let f : Fields = d .fields in
       let last : ℕ = pick (eqb (index + 1) (f .total)) (length bytes) (d .last) in
       let filled : List ℕ = patched (index * f .size) bytes image in
-      record
-      { number = 0
-      ; length = 0
-      ; device = grown (completion (d .stored + 1) last f filled) last d
-      ; image = filled
-      ; map = mark index map
-      ; reply = reply
+      record {
+        number = 0;
+        length = 0;
+        device = grown (completion (d .stored + 1) last f filled) last d;
+        image = filled;
+        map = mark index map;
+        reply = reply;
       }
 
   -- ---- the six messages
@@ -157,7 +157,7 @@ module _ (d : Device) (image map reply : List ℕ) where
   unfoldable pub receiveOf : (supported pcp : Bool) (condition : ℕ) (message : List ℕ) → After
   receiveOf supported pcp condition message =
       let n : ℕ =
-          refusal ((15, leb deviceRoom (length reply)) ∷ (13, conditionOk condition) ∷ (29, recordOk d) ∷ (14, roomOk d image map) ∷ []) in
+      refusal ((15, leb deviceRoom (length reply)) ∷ (13, conditionOk condition) ∷ (29, recordOk d) ∷ (14, roomOk d image map) ∷ []) in
       pick (eqb n 0) (handle condition (readOf toDevice supported pcp message)) (refuse n)
 
 -- ---- asking for the next message

@@ -1,9 +1,17 @@
 // The announcement of a package (20): what it is answered with, and the download that it begins.
-use crate::record::{begun, holding, map_bytes, product};
-use crate::replies::{answered, refusal, refused};
-use crate::{Answer, Device};
+use crate::Answer;
+use crate::Device;
+use crate::record::begun;
+use crate::record::holding;
+use crate::record::map_bytes;
+use crate::record::product;
+use crate::replies::answered;
+use crate::replies::refusal;
+use crate::replies::refused;
 use basis::pick;
-use message::{Fields, ToDevice, ToGateway};
+use message::Fields;
+use message::ToDevice;
+use message::ToGateway;
 ghost use mathlib.Core.Path.{_≡_};
 ghost use mathlib.Core.Bool.{true};
 ghost use mathlib.Core.List.{List};
@@ -51,7 +59,15 @@ fn resumes(device: Device, fields: Fields) -> bool
 }
 
 // 20: a package is announced. An answer other than 00 changes nothing.
-pub(crate) fn on_announce(device: Device, condition: u8, message: ToDevice, version: [u8; 16], image: &[u8], map: &mut [u8], reply: &mut [u8]) -> Answer
+pub(crate) fn on_announce(
+    device: Device,
+    condition: u8,
+    message: ToDevice,
+    version: [u8; 16],
+    image: &[u8],
+    map: &mut [u8],
+    reply: &mut [u8],
+) -> Answer
     requires { ⌜ deviceRoom ≤ length (now reply) ⌝ }
     requires { ⌜ conditionOk condition ≡ true ⌝ }
     requires { ⌜ Awaited 20 message ⌝ }

@@ -1,8 +1,12 @@
 // A reading is led to the handler of its message's code.
+use crate::Answer;
+use crate::Device;
 use crate::announce::on_announce;
 use crate::fragment::on_fragment;
-use crate::replies::{on_download_reply, on_execute, on_query, on_result_reply};
-use crate::{Answer, Device};
+use crate::replies::on_download_reply;
+use crate::replies::on_execute;
+use crate::replies::on_query;
+use crate::replies::on_result_reply;
 use message::ToDevice;
 ghost use mathlib.Core.Path.{_≡_};
 ghost use mathlib.Core.Bool.{true};
@@ -16,7 +20,15 @@ ghost use Rattle.device.specs.Rules.{handle};
 ghost use Rattle.device.specs.Coded.{afterCall, Awaited};
 
 // A refusal leaves by the exit of whatever handler it comes to.
-pub(crate) fn handle(device: Device, condition: u8, reading: ToDevice, message: &[u8], image: &mut [u8], map: &mut [u8], reply: &mut [u8]) -> Answer
+pub(crate) fn handle(
+    device: Device,
+    condition: u8,
+    reading: ToDevice,
+    message: &[u8],
+    image: &mut [u8],
+    map: &mut [u8],
+    reply: &mut [u8],
+) -> Answer
     requires { ⌜ deviceRoom ≤ length (now reply) ⌝ }
     requires { ⌜ conditionOk condition ≡ true ⌝ }
     requires { ⌜ recordOk device ≡ true ⌝ }

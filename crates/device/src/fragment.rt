@@ -1,10 +1,17 @@
 // A fragment of the package (21): its tests, its place in the image and the map, and what is then
 // complete.
-use crate::record::{grown, in_phase, product};
-use crate::replies::{moved, refusal, refused};
-use crate::{Answer, Device};
-use basis::{pick, unless};
-use message::{Fields, ToDevice};
+use crate::Answer;
+use crate::Device;
+use crate::record::grown;
+use crate::record::in_phase;
+use crate::record::product;
+use crate::replies::moved;
+use crate::replies::refusal;
+use crate::replies::refused;
+use basis::pick;
+use basis::unless;
+use message::Fields;
+use message::ToDevice;
 ghost use mathlib.Core.Path.{_≡_};
 ghost use mathlib.Core.Bool.{true};
 ghost use mathlib.Core.List.{List};
@@ -104,7 +111,13 @@ fn store(device: Device, index: u16, content: &[u8], image: &mut [u8], map: &mut
 }
 
 // 21: a fragment, or the gateway's word that there is none.
-pub(crate) fn on_fragment(device: Device, message: ToDevice, content: &[u8], image: &mut [u8], map: &mut [u8]) -> Answer
+pub(crate) fn on_fragment(
+    device: Device,
+    message: ToDevice,
+    content: &[u8],
+    image: &mut [u8],
+    map: &mut [u8],
+) -> Answer
     requires { ⌜ recordOk device ≡ true ⌝ }
     requires { ⌜ roomOk device (now image) (now map) ≡ true ⌝ }
     requires { ⌜ Awaited 21 message ⌝ }

@@ -1,7 +1,9 @@
 // What each call is refused for before anything is done: the number of the first test that fails,
 // else 0.
-use crate::record::{condition_ok, record_ok, room_ok};
 use crate::Device;
+use crate::record::condition_ok;
+use crate::record::record_ok;
+use crate::record::room_ok;
 use basis::unless;
 ghost use mathlib.Core.Path.{_≡_};
 ghost use mathlib.Core.List.{[], _∷_};

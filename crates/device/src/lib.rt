@@ -1,5 +1,6 @@
 // The device's end of an upgrade ("head" in 01): its record, and the calls that a host makes of it.
-use message::{Fields, ToGateway};
+use message::Fields;
+use message::ToGateway;
 ghost use mathlib.Core.Path.{_≡_};
 ghost use Rattle.device.specs.Record.{newOf};
 ghost use Rattle.device.specs.Rules.{receiveOf, nextMessageOf, installFinishedOf};
@@ -13,7 +14,10 @@ mod guards;
 mod record;
 mod replies;
 
-pub use record::{condition_ok, map_bytes, record_ok, room_ok};
+pub use record::condition_ok;
+pub use record::map_bytes;
+pub use record::record_ok;
+pub use record::room_ok;
 
 // What the device keeps between calls. The host keeps it, and lends it by value to every call.
 pub struct Device {
@@ -58,17 +62,26 @@ pub struct Finished {
 impl Device {
     // The phases.
     pub const IDLE: u8 = 0;
+
     pub const LOADING: u8 = 1;
+
     pub const LOADED: u8 = 2;
+
     pub const ACKED: u8 = 3;
+
     pub const FAILED: u8 = 4;
+
     pub const INSTALLING: u8 = 5;
+
     pub const REPORTING: u8 = 6;
 
     // The limits of an announcement, and the least reply buffer.
     pub const SIZE_MIN: u16 = Fields::SIZE_MIN;
+
     pub const SIZE_MAX: u16 = Fields::SIZE_MAX;
+
     pub const TOTAL_MAX: u16 = Fields::TOTAL_MAX;
+
     pub const REPLY_ROOM: usize = ToGateway::ROOM;
 
     // A fresh device, from the version that runs.
@@ -91,7 +104,16 @@ impl Device {
 
 // A message is given. On 0 the reply fills the front of its buffer; on any other number nothing is
 // written.
-pub fn receive(device: Device, supported: bool, pcp: bool, condition: u8, message: &[u8], image: &mut [u8], map: &mut [u8], reply: &mut [u8]) -> Answer
+pub fn receive(
+    device: Device,
+    supported: bool,
+    pcp: bool,
+    condition: u8,
+    message: &[u8],
+    image: &mut [u8],
+    map: &mut [u8],
+    reply: &mut [u8],
+) -> Answer
     ensures { λ r. ⌜ afterCall r (now (image .exit)) (now (map .exit)) (now (reply .exit)) ≡ receiveOf device (now (image .entry)) (now (map .entry)) (now (reply .entry)) supported pcp condition (now (message .entry)) ⌝ }
 {
     let number = guards::receiving(device, condition, image, map, reply);

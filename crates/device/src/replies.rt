@@ -1,8 +1,11 @@
 // What a call answers, and the handlers of the messages that carry no package.
+use crate::Answer;
+use crate::Device;
+use crate::Said;
 use crate::record::in_phase;
-use crate::{Answer, Device, Said};
 use basis::pick;
-use message::{ToDevice, ToGateway};
+use message::ToDevice;
+use message::ToGateway;
 ghost use mathlib.Core.Path.{_≡_};
 ghost use mathlib.Core.List.{List};
 ghost use mathlib.Core.Bool.{true};
@@ -65,7 +68,12 @@ pub(crate) fn say(message: ToGateway, version: [u8; 16], reply: &mut [u8]) -> Sa
 }
 
 // Handled, with a reply.
-pub(crate) fn answered(device: Device, message: ToGateway, version: [u8; 16], reply: &mut [u8]) -> Answer
+pub(crate) fn answered(
+    device: Device,
+    message: ToGateway,
+    version: [u8; 16],
+    reply: &mut [u8],
+) -> Answer
     requires { ⌜ deviceRoom ≤ length (now reply) ⌝ }
     requires { ⌜ Sayable (gatewayMessage message version) ⌝ }
     ensures { λ r. ⌜ ((image map : List ℕ) (m : GatewayMessage) → gatewayMessage message version ≡ found m → afterCall r image map (now (reply .exit)) ≡ replied device image map (now (reply .entry)) device m) ⌝ }
@@ -129,7 +137,12 @@ fn execute_result(phase: u8, condition: u8) -> u8
 }
 
 // 23: the order to install.
-pub(crate) fn on_execute(device: Device, condition: u8, message: ToDevice, reply: &mut [u8]) -> Answer
+pub(crate) fn on_execute(
+    device: Device,
+    condition: u8,
+    message: ToDevice,
+    reply: &mut [u8],
+) -> Answer
     requires { ⌜ deviceRoom ≤ length (now reply) ⌝ }
     requires { ⌜ Awaited 23 message ⌝ }
     ensures { λ r. ⌜ ((image map version bytes : List ℕ) → afterCall r image map (now (reply .exit)) ≡ handle device image map (now (reply .entry)) condition (deviceMessage message version bytes)) ⌝ }
@@ -140,7 +153,12 @@ pub(crate) fn on_execute(device: Device, condition: u8, message: ToDevice, reply
     let result = execute_result(device.phase, condition);
     let phase = pick(result == 0x00, Device::INSTALLING, device.phase);
     let running = device.running;
-    answered(in_phase(device, phase), ToGateway::ExecuteReply(result), running, reply)
+    answered(
+        in_phase(device, phase),
+        ToGateway::ExecuteReply(result),
+        running,
+        reply,
+    )
 }
 
 // 24: the gateway has taken the report.

@@ -56,7 +56,7 @@ inPhase phase g = record { phase = phase; ending = g .ending; version = g .versi
 abbrev pub endedWith : ℕ → Gateway → Gateway
 endedWith number g = record { phase = ended; ending = number; version = g .version; size = g .size; length = g .length; code = g .code }
 
--- 17, 18, 19; the check code is 0, or the check rule over the package, as the caller chose
+-- 17, 18, 19, with a record that 29 refuses; the check code is 0, or the check rule over the package, as the caller chose
 unfoldable pub startOf : (version : List ℕ) (size : ℕ) (content : List ℕ) (checked : Bool) → Started
 startOf version size content checked =
     let n : ℕ = refusal ((17, goodVersion version) ∷ (18, sizeOk size) ∷ (19, lengthOk (length content) size) ∷ []) in

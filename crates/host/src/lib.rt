@@ -1,5 +1,6 @@
 // The library for hosts in C and Rust (include/pcp.h): functions on numbers and byte slices alone.
-// None asks its caller to have checked anything.
+// None asks its caller to have checked anything; a slice with no bytes needs a pointer all the same,
+// which the header's own functions see to.
 ghost use mathlib.Core.Path.{_≡_};
 ghost use mathlib.Core.Bool.{not};
 ghost use lib.Dec.{eqb};

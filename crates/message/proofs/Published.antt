@@ -25,16 +25,16 @@ given (step-of r b) = step r b
 given (entry i) = getD entries i 0
 given (size-ok n) = pick (sizeOk n) 1 0
 
--- each message is shown with its check field as 0000; a size that is allowed gives 1, another 0
+-- each message is shown as it is printed, its check in its field, which is taken as 0000; a size that is allowed gives 1, another 0
 abbrev pub rows : List (Row × ℕ)
 rows =
-    (check-of 8 0xFFFE0113_0000_0000, 0x4C9A) ∷  -- 19 query
-    (check-of 25 0xFFFE0113_0000_0011_00_56302E39_000000000000000000000000, 0x8DE3) ∷  -- 19 answer: V0.9
-    (check-of 9 0xFFFE0114_0000_0001_00, 0xD768) ∷  -- 20 answer: 00
-    (check-of 27 0xFFFE0115_0000_0013_00_0000_48454C4C4F2C20496F5420534F544121, 0xE107) ∷  -- 21 fragment 0
-    (check-of 26 0xFFFE0115_0000_0012_56312E30_000000000000000000000000_0000, 0x5618) ∷  -- 21 request for fragment 0 of V1.0
-    (check-of 30 0xFFFE0114_0000_0016_56312E30_000000000000000000000000_0100_013D_6534, 0x1019) ∷  -- 20 announcement of V1.0 in source 001
-    (check-of 30 0xFFFE0114_0000_0016_56312E30_000000000000000000000000_01F4_0001_0000, 0x3AE6) ∷  -- 20 announcement of V1.0 with code 0000
+    (check-of 8 0xFFFE0113_4C9A_0000, 0x4C9A) ∷  -- 19 query
+    (check-of 25 0xFFFE0113_8DE3_0011_00_56302E39_000000000000000000000000, 0x8DE3) ∷  -- 19 answer: V0.9
+    (check-of 9 0xFFFE0114_D768_0001_00, 0xD768) ∷  -- 20 answer: 00
+    (check-of 27 0xFFFE0115_E107_0013_00_0000_48454C4C4F2C20496F5420534F544121, 0xE107) ∷  -- 21 fragment 0
+    (check-of 26 0xFFFE0115_5618_0012_56312E30_000000000000000000000000_0000, 0x5618) ∷  -- 21 request for fragment 0 of V1.0
+    (check-of 30 0xFFFE0114_1019_0016_56312E30_000000000000000000000000_0100_013D_6534, 0x1019) ∷  -- 20 announcement of V1.0 in source 001
+    (check-of 30 0xFFFE0114_3AE6_0016_56312E30_000000000000000000000000_01F4_0001_0000, 0x3AE6) ∷  -- 20 announcement of V1.0 with code 0000
     (step-of 0xA189 0x00, 0x0000) ∷  -- a register that a step loses
     (entry 0, 0x0000) ∷
     (entry 1, 0x1021) ∷

@@ -79,7 +79,7 @@ module _ (t : Table) (s p : Bool) (m : List ℕ) where
   read-by n b starts e z =
       let long : 8 ≤ length m = recognised s p m (sym e ∙ z) .whole in
       let by-length : same (t .content candidate) (drop 8 m) ≡ eqb (8 + length (t .content candidate)) (length m) =
-          same-part (t .content candidate) (drop 8 m) starts ∙ behind (length (t .content candidate)) m long in
+      same-part (t .content candidate) (drop 8 m) starts ∙ behind (length (t .content candidate)) m long in
       rw (← e, z, by-length) (pick-yes (eqb 0 0) _ (refused 0) refl)
 
   -- the candidate as the code has it, r, with what the code tests of it

@@ -23,7 +23,7 @@ module _ (v : List ℕ) (i : ℕ) where
   unfolding front
   front-more h e inv =
       let step : front (drop i v) ≡ suc (front (drop (i + 1) v)) =
-          rw (drop-cons v i 0, add-one) (pick-yes (printable (getD v i 0)) (suc (front (drop (suc i) v))) 0 e) in
+      rw (drop-cons v i 0, add-one) (pick-yes (printable (getD v i 0)) (suc (front (drop (suc i) v))) 0 e) in
       omega arith
 
   pub front-stops : i < length v → printable (getD v i 0) ≡ false → i + front (drop i v) ≡ front v → i ≡ front v

@@ -48,7 +48,7 @@ fields-in r v w result version words o o₁ o₂ o₃ h p q e₁ e₂ e₃ =
     let a : length (take r result) ≡ r = length-take-le r result p in
     let b : length (take v version) ≡ v = length-take-le v version q in
     let two : o₂ ≡ patched 8 (take r result ++ take v version) o =
-        rw (e₂, e₁) (patched-patched 8 (8 + r) (take r result) (take v version) o h (omega arith)) in
+    rw (e₂, e₁) (patched-patched 8 (8 + r) (take r result) (take v version) o h (omega arith)) in
     rw (e₃, two)
     (patched-patched 8 (8 + r + v) (take r result ++ take v version) (take w words) o h (simp (length-append, a, b) (omega arith))
     ∙ ap (λ (l : List ℕ). patched 8 l o) (append-assoc (take r result) (take v version) (take w words)))
@@ -79,7 +79,7 @@ module _ (p : Parts) (v d o : List ℕ) (len : ℕ) (w : Within p (length d)) (s
       let t : p .«version_len» ≤ 16 = w .version in
       let k : p .«words_len» ≤ 6 = w .words in
       let place : length (header (p .code) len ++ fields p v) ≡ 8 + (len - p .«data_len») =
-          simp (length-append, length-take, six, text) (omega arith) in
+      simp (length-append, length-take, six, text) (omega arith) in
       let joined : fields p v ++ take (p .«data_len») d ≡ assembled p v d = unfold assembled in (simp append-assoc) in
       rw (e₃, e₂, e₁, patched-over (header (p .code) len) (fields p v) o 8 refl)
       (patched-over (header (p .code) len ++ fields p v) (take (p .«data_len») d) o (8 + (len - p .«data_len»)) place
@@ -92,7 +92,7 @@ module _ (p : Parts) (v d o : List ℕ) (len : ℕ) (w : Within p (length d)) (s
       let is : take (8 + len) (over unsealed o) ≡ unsealed = ap (λ (n : ℕ). take n (over unsealed o)) (sym length-unsealed) ∙ take-over unsealed o in
       record {
         size = rw same-length (sym (length-sealed unsealed ∙ length-unsealed));
-        bytes = rw (same-length, e₄, e₃, is) (over-over unsealed (sealed unsealed) o (sym (length-sealed unsealed)))
+        bytes = rw (same-length, e₄, e₃, is) (over-over unsealed (sealed unsealed) o (sym (length-sealed unsealed)));
       }
 
 -- ---- a message that is allowed fits its sender's buffer

@@ -28,7 +28,8 @@ gatewayMessage (ToGateway.DownloadReport result) version = found (GatewayMessage
 gatewayMessage (ToGateway.ExecuteReply result) version = found (GatewayMessage.executeReply result)
 gatewayMessage (ToGateway.ResultReport result) version = found (GatewayMessage.resultReport result version)
 
--- where the version text stands in a message to the gateway: behind the result, if there is one
+-- where the version text stands in a message to the gateway: 9 where a result stands before it, else 8; a message without version text
+-- gives 8, which nobody reads
 abbrev pub versionPlace : ToGateway → ℕ
 versionPlace (ToGateway.Refused number) = 8
 versionPlace (ToGateway.QueryReply result) = 9

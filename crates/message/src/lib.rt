@@ -7,11 +7,19 @@ mod recognition;
 mod version;
 mod write;
 
-pub use ranges::{install_code, size_ok, total_ok};
-pub use read::{fragment_data, read_to_device, read_to_gateway, version_place};
+pub use ranges::install_code;
+pub use ranges::size_ok;
+pub use ranges::total_ok;
+pub use read::fragment_data;
+pub use read::read_to_device;
+pub use read::read_to_gateway;
+pub use read::version_place;
 pub use recognition::recognise;
-pub use version::{good_version, same_version, version_at};
-pub use write::{write_to_device, write_to_gateway};
+pub use version::good_version;
+pub use version::same_version;
+pub use version::version_at;
+pub use write::write_to_device;
+pub use write::write_to_gateway;
 
 // The four fields of an announcement, which name a package: 01's version, size, total and code.
 pub struct Fields {
@@ -24,7 +32,9 @@ pub struct Fields {
 impl Fields {
     // The limits of the size of a fragment, and of the number of fragments.
     pub const SIZE_MIN: u16 = 32;
+
     pub const SIZE_MAX: u16 = 500;
+
     pub const TOTAL_MAX: u16 = 65535;
 }
 

@@ -1,6 +1,7 @@
 // The data of a message in the parts that 01's table names, each there or not, in this order: a
 // result, version text, WORDs, and the data of a fragment. One table for the reader and the writer.
-use crate::{ToDevice, ToGateway};
+use crate::ToDevice;
+use crate::ToGateway;
 ghost use mathlib.Core.Path.{_≡_};
 ghost use mathlib.Core.List.{_++_};
 ghost use Prim.Native.Nat.{_+_, _≤_, _<_};
@@ -104,7 +105,10 @@ pub(crate) fn device_parts(message: ToDevice, len: usize) -> Parts
             Parts::new(20).with_version().with_words(size, total, code)
         }
         ToDevice::Fragment { result, index } => {
-            Parts::new(21).with_result(result).with_word(index).with_data(len)
+            Parts::new(21)
+                .with_result(result)
+                .with_word(index)
+                .with_data(len)
         }
         ToDevice::DownloadReply(result) => Parts::new(22).with_result(result),
         ToDevice::Execute => Parts::new(23),

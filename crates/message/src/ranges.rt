@@ -1,6 +1,8 @@
 // What 01's table allows in the fields of a message.
+use crate::Fields;
+use crate::ToDevice;
+use crate::ToGateway;
 use crate::version::good_version;
-use crate::{Fields, ToDevice, ToGateway};
 ghost use mathlib.Core.Path.{_≡_};
 ghost use Rattle.message.specs.Limits.{sizeOk, totalOk};
 ghost use Rattle.message.specs.Messages.{DeviceMessage, GatewayMessage, deviceValid, gatewayValid, fragmentOk, installCode};

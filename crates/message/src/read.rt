@@ -1,9 +1,13 @@
 // Messages read: recognised, their fields at their places, and nothing else in their data.
-use crate::parts::{data_len, device_parts, gateway_parts};
-use crate::ranges::{device_valid, gateway_valid};
+use crate::ToDevice;
+use crate::ToGateway;
+use crate::parts::data_len;
+use crate::parts::device_parts;
+use crate::parts::gateway_parts;
+use crate::ranges::device_valid;
+use crate::ranges::gateway_valid;
 use crate::recognition::recognise;
 use crate::version::version_at;
-use crate::{ToDevice, ToGateway};
 ghost use mathlib.Core.Path.{_≡_};
 ghost use lib.ListN.{drop, getD};
 ghost use Rattle.basis.specs.Bytes.{part};
@@ -19,7 +23,8 @@ pub fn fragment_data(message: &[u8]) -> &[u8]
     &message[at..]
 }
 
-// Where the version text stands in a message toward the gateway: behind the result, if there is one.
+// Where the version text stands in a message toward the gateway: behind the result, if one stands
+// before it. A message without version text gives 8.
 pub fn version_place(message: ToGateway) -> usize
     ensures { λ r. ⌜ r ≡ versionPlace message ⌝ }
 {

@@ -1,7 +1,13 @@
 // Messages written: the buffer is tested, then the fields; nothing is written on a refusal.
-use crate::parts::{data_len, device_parts, gateway_parts, Parts};
-use crate::ranges::{device_valid, gateway_valid};
-use crate::{ToDevice, ToGateway, Written};
+use crate::ToDevice;
+use crate::ToGateway;
+use crate::Written;
+use crate::parts::Parts;
+use crate::parts::data_len;
+use crate::parts::device_parts;
+use crate::parts::gateway_parts;
+use crate::ranges::device_valid;
+use crate::ranges::gateway_valid;
 ghost use mathlib.Core.Path.{_≡_};
 ghost use mathlib.Core.List.{[], _∷_, _++_};
 ghost use Prim.Native.Nat.{_+_, _≤_, _<_};
@@ -16,7 +22,16 @@ fn put_header(out: &mut [u8], code: u8, len: usize)
     requires { ⌜ (8 ≤ length (now out)) × (len < 65536) ⌝ }
     ensures { λ _. ⌜ now (out .exit) ≡ over (0xFF ∷ 0xFE ∷ 0x01 ∷ code ∷ 0 ∷ 0 ∷ wordBytes len) (now (out .entry)) ⌝ }
 {
-    let header = [0xFF, 0xFE, 0x01, code, 0, 0, (len / 256) as u8, (len % 256) as u8];
+    let header = [
+        0xFF,
+        0xFE,
+        0x01,
+        code,
+        0,
+        0,
+        (len / 256) as u8,
+        (len % 256) as u8,
+    ];
     basis::put(out, 0, &header);
 }
 
@@ -69,14 +84,25 @@ fn write_parts(parts: Parts, version: [u8; 16], content: &[u8], out: &mut [u8]) 
 }
 
 // A message toward the device, as the gateway sends it.
-pub fn write_to_device(message: ToDevice, version: [u8; 16], content: &[u8], out: &mut [u8]) -> Written
+pub fn write_to_device(
+    message: ToDevice,
+    version: [u8; 16],
+    content: &[u8],
+    out: &mut [u8],
+) -> Written
     ensures { λ r. ⌜ sent r (now (out .exit)) ≡ writeOf toDevice (deviceMessage message version (now (content .entry))) (now (out .entry)) ⌝ }
 {
     if out.len() < ToDevice::ROOM {
-        return Written { number: 15, length: 0 };
+        return Written {
+            number: 15,
+            length: 0,
+        };
     }
     if !device_valid(message, version, content) {
-        return Written { number: 8, length: 0 };
+        return Written {
+            number: 8,
+            length: 0,
+        };
     }
     let parts = device_parts(message, content.len());
     let length = write_parts(parts, version, content, out);
@@ -88,10 +114,16 @@ pub fn write_to_gateway(message: ToGateway, version: [u8; 16], out: &mut [u8]) -
     ensures { λ r. ⌜ sent r (now (out .exit)) ≡ writeOf toGateway (gatewayMessage message version) (now (out .entry)) ⌝ }
 {
     if out.len() < ToGateway::ROOM {
-        return Written { number: 15, length: 0 };
+        return Written {
+            number: 15,
+            length: 0,
+        };
     }
     if !gateway_valid(message, version) {
-        return Written { number: 8, length: 0 };
+        return Written {
+            number: 8,
+            length: 0,
+        };
     }
     let parts = gateway_parts(message);
     let none = [0u8; 0];

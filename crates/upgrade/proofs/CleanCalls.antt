@@ -27,7 +27,7 @@ use Rattle.gateway.specs.Rules as gateway-rules
 use Rattle.upgrade.specs.Calls.{aired, DeviceEnd, given, asked, deviceAnswer, deviceNext, deviceSays, GatewayCall, gatewayNext, gatewaySays, World, next}
 use Rattle.upgrade.proofs.Count.{any, Fine, call-fine}
 use Rattle.upgrade.proofs.CleanSetting.{Setting, gatewayIn, gateway-good}
-use Rattle.upgrade.specs.Clean.{arriveAtDevice, arriveAtGateway, answeredByDevice, answeredByGateway, gatewayAsked, deviceAsked}
+use Rattle.upgrade.specs.Clean.{arriveAtDevice, arriveAtGateway, answeredByDevice, answeredByGateway, gatewayAsked, deviceAsked, askedNumber}
 
 -- what a message leaves at the device's end
 abbrev pub left : device-rules.After → DeviceEnd
@@ -46,8 +46,8 @@ aired-message t m buffer =
     pick-no _ _ _ (ne-eqb (length (bytesOf t m)) 0 (λ e. omega (arith, length-frame (t .code m) (t .content m))))
     ∙ ap (λ (l : List ℕ). l ∷ []) (take-over (bytesOf t m) buffer)
 
-not-nothing : (b : List ℕ) → b ∷ [] ≡ [] → ⊥
-not-nothing b e = let z : _≡_ {A = ℕ} 0 1 = cc in omega arith
+zero-nine : _≡_ {A = ℕ} 0 9 → ⊥
+zero-nine e = omega arith
 
 module _ (s : Setting) where
   abbrev pub asksDevice : World → World
@@ -58,8 +58,12 @@ module _ (s : Setting) where
 
   -- the device has something to say, and asking it for that leads to these two ends
   pub record Spoke (w : World) (e : DeviceEnd) (g : Gateway) : Type 0 where
-    pub speaks : deviceSays (w .end) (asked (s .deviceReply)) ≡ [] → ⊥
+    pub speaks : askedNumber (s .content) (s .deviceReply) (s .gatewayReply) w ≡ 9 → ⊥
     pub leads : At (asksDevice w) e g
+
+  -- the number with which an end of the device answers an ask
+  abbrev askedOf : DeviceEnd → ℕ
+  askedOf e = device-rules.nextMessageOf (e .device) (e .image) (e .map) (s .deviceReply) .number
 
   -- what a message that is heard leads to
   abbrev pub deviceTakes : DeviceEnd → DeviceMessage → device-rules.After
@@ -89,6 +93,11 @@ module _ (s : Setting) where
         ≡ (let s : Sent = said toGateway r (s .deviceReply) in aired (s .length) (s .buffer))
     unfolding deviceSays device-rules.nextMessageOf refusal pick
     device-says r q = rw (device-roomy, good, fits, q)
+
+    pub device-number : (r : Reading GatewayMessage) → device-rules.wanted (e .device) (e .map) ≡ r
+        → device-rules.nextMessageOf (e .device) (e .image) (e .map) (s .deviceReply) .number ≡ said toGateway r (s .deviceReply) .number
+    unfolding device-rules.nextMessageOf refusal pick
+    device-number r q = rw (device-roomy, good, fits, q)
 
   -- ---- the gateway's calls
 
@@ -131,7 +140,7 @@ module _ (s : Setting) where
         let says : deviceSays e (asked (s .deviceReply)) ≡ bytesOf toGateway m ∷ [] =
         device-says e (here .sound) (found m) q ∙ aired-message toGateway m (s .deviceReply) in
         record {
-          speaks = λ z. not-nothing (bytesOf toGateway m) (sym says ∙ ap (λ (f : DeviceEnd). deviceSays f (asked (s .deviceReply))) (sym (here .end-is)) ∙ z);
+          speaks = λ z. zero-nine (sym (device-number e (here .sound) (found m) q) ∙ ap askedOf (sym (here .end-is)) ∙ z);
           leads =
               rw (
                 here .end-is,

@@ -1,7 +1,7 @@
 -- The clean run of a setting, from the announcement to the end, and that it has one outcome. Assumes nothing.
 use Prim.Native.Nat.{ℕ, zero, suc, _+_, _-_}
 use native.Mathlib.Omega.{arith}
-use mathlib.Core.Path.{_≡_, refl}
+use mathlib.Core.Path.{_≡_, refl, ap}
 use mathlib.Core.List.{List}
 use Rattle.device.specs.Record as device
 use Rattle.gateway.specs.declared.Gateway.{Gateway}
@@ -71,3 +71,9 @@ module _ (s : Setting) where
     succeeds v until =
         let (u, other, f) = fetched in
         rw (one-silence (s .content) (s .deviceReply) (s .gatewayReply) until other) (ends u f)
+
+    -- and the gateway is in Run
+    pub runs : (v : World) → Until (asksGateway s w) v → v .gateway .phase ≡ gateway.run
+    runs v until =
+        let (u, other, f) = fetched in
+        rw (one-silence (s .content) (s .deviceReply) (s .gatewayReply) until other) (ap (λ (g : Gateway). g .phase) (f .here .gateway-is))

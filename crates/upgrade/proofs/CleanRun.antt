@@ -114,5 +114,5 @@ clean-run b deviceReply gatewayReply c =
       (v, until),
       λ u silence.
           let e : _ = of.succeeds s (start b) (at-start b deviceReply gatewayReply c) u silence in
-          (ap (λ (g : Gateway). g .phase) e, ap (λ (g : Gateway). g .ending) e),
+          (of.runs s (start b) (at-start b deviceReply gatewayReply c) u silence, ap (λ (g : Gateway). g .phase) e, ap (λ (g : Gateway). g .ending) e),
     )

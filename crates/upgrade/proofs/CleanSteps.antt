@@ -23,10 +23,11 @@ use Rattle.device.proofs.Sound.{sound-record}
 use Rattle.gateway.specs.Record as gateway
 use Rattle.gateway.specs.Rules as gateway-rules
 use Rattle.gateway.proofs.Package.{stretch-fits}
-use Rattle.upgrade.specs.Calls.{aired, DeviceEnd, asked, installed, deviceNext, deviceSays, World, atDevice, next}
+use Rattle.upgrade.specs.Calls.{DeviceEnd, installed, deviceNext, World, atDevice, next}
+use Rattle.upgrade.specs.Clean.{askedNumber}
 use Rattle.upgrade.proofs.Count.{any, call-fine}
 use Rattle.upgrade.proofs.CleanSetting.{Setting, total, fields, gatewayIn, endIn, loadingAt, updatedIn, some, size-most, total-fits, total-ok}
-use Rattle.upgrade.proofs.CleanCalls.{left, At, Spoke, aired-message, asksGateway, deviceTakes, gatewayTakes, device-says, device-exchange, gateway-exchange}
+use Rattle.upgrade.proofs.CleanCalls.{left, At, Spoke, aired-message, asksGateway, deviceTakes, gatewayTakes, device-number, device-exchange, gateway-exchange}
 use Rattle.upgrade.proofs.CleanLoad.{Front, lowest, new, fragment-some, fragment-full, complete}
 
 -- an Idle device with another version and room takes an announcement up
@@ -121,9 +122,10 @@ module _ (s : Setting) where
   -- ---- from the last fragment to the end
 
   module _ (stored last : ℕ) (image map : List ℕ) (w : World) where
-    pub quiet : At w (endIn s device.acked stored last image map) (gatewayIn s gateway.run) → deviceSays (w .end) (asked (s .deviceReply)) ≡ []
-    unfolding device-rules.wanted said aired pick
-    quiet here = rw (here .end-is) (device-says s (endIn s device.acked stored last image map) (here .sound) (refused 9) refl)
+    pub quiet : At w (endIn s device.acked stored last image map) (gatewayIn s gateway.run)
+        → askedNumber (s .content) (s .deviceReply) (s .gatewayReply) w ≡ 9
+    unfolding device-rules.wanted said pick
+    quiet here = rw (here .end-is) (device-number s (endIn s device.acked stored last image map) (here .sound) (refused 9) refl)
 
     pub reported : At w (endIn s device.loaded stored last image map) (gatewayIn s gateway.serve)
         → Spoke s w (endIn s device.acked stored last image map) (gatewayIn s gateway.run)

@@ -16,27 +16,8 @@ use Rattle.device.proofs.Sound.{Sound, sound-fresh, sound-record, sound-room}
 use Rattle.device.proofs.Standing.{standing, standing-does}
 use Rattle.device.proofs.Numbers.{Neither, receive-neither, ask-neither, install-neither}
 use Rattle.upgrade.specs.Fold.{after}
+use Rattle.upgrade.specs.Counted.{Counted, Count}
 use Rattle.upgrade.specs.Calls.{DeviceEnd, DeviceCall, given, asked, installed, deviceAnswer, deviceNext}
-
--- ---- the claim
-
--- What holds of a device's record with image and map, as calls left them. `Neither n`: n is neither 29 nor 14.
-pub record Counted (e : DeviceEnd) : Type 0 where
-  pub count : loading ≤ e .device .phase → e .device .phase ≤ reporting → e .device .stored ≡ setBits (e .map) (e .device .fields .total)
-  pub record-holds : recordOk (e .device) ≡ true
-  pub room-holds : roomOk (e .device) (e .image) (e .map) ≡ true
-  pub given-neither : (supported pcp : Bool) (condition : ℕ) (message reply : List ℕ)
-      → Neither (deviceAnswer e supported pcp condition message reply .number)
-  pub asked-neither : (reply : List ℕ) → Neither (device.nextMessageOf (e .device) (e .image) (e .map) reply .number)
-  pub installed-neither : (code : ℕ) → Neither (device.installFinishedOf (e .device) code .number)
-
--- A fresh record, any image and one map, then any list of calls.
-abbrev pub Count : Type 0
-Count =
-    (version image map : List ℕ) → newOf version .number ≡ 0 → (calls : List DeviceCall) →
-    Counted (after deviceNext (record { device = newOf version .device; image = image; map = map }) calls)
-
--- ---- the proof
 
 -- of the stored bytes nothing in particular is known
 pub any : ℕ → List ℕ → Type 0

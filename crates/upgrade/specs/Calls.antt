@@ -81,18 +81,18 @@ pub data Call : Type 0 where
 
 unfoldable pub next : (content : List ℕ) → World → Call → World
 next content w (atDevice c) =
-    record
-    { end = deviceNext (w .end) c
-    ; gateway = w .gateway
-    ; fromDevice = deviceSays (w .end) c ++ w .fromDevice
-    ; fromGateway = w .fromGateway
+    record {
+      end = deviceNext (w .end) c;
+      gateway = w .gateway;
+      fromDevice = deviceSays (w .end) c ++ w .fromDevice;
+      fromGateway = w .fromGateway;
     }
 next content w (atGateway c) =
-    record
-    { end = w .end
-    ; gateway = gatewayNext content (w .gateway) c
-    ; fromDevice = w .fromDevice
-    ; fromGateway = gatewaySays content (w .gateway) c ++ w .fromGateway
+    record {
+      end = w .end;
+      gateway = gatewayNext content (w .gateway) c;
+      fromDevice = w .fromDevice;
+      fromGateway = gatewaySays content (w .gateway) c ++ w .fromGateway;
     }
 
 -- each end is given only what the other has put on the air

@@ -1,15 +1,16 @@
 -- The clean run of 01, "The gateway": each message and its reply arrive once, before the next ask. Assumes nothing.
 use Prim.Native.Nat.{ℕ, _*_, _≤_}
 use mathlib.Core.Path.{_≡_}
-use mathlib.Core.Bool.{Bool, true, false}
+use mathlib.Core.Bool.{true, false}
 use mathlib.Core.List.{List, [], _∷_}
 use lib.ListN.{length}
 use Rattle.basis.specs.Bytes.{same}
 use Rattle.message.specs.Limits.{deviceRoom, gatewayRoom}
 use Rattle.device.specs.Record.{idle, mapBytes}
+use Rattle.device.specs.Rules.{nextMessageOf}
 use Rattle.gateway.specs.Record as gateway
-use Rattle.upgrade.specs.Calls.{DeviceCall, given, asked, installed, deviceSays, GatewayCall, gatewaySays, World, Call, atDevice, atGateway, next}
-use Rattle.upgrade.specs.Demand3.{Before, Ready, deviceThen, gatewayThen, start}
+use Rattle.upgrade.specs.Calls.{DeviceCall, given, asked, installed, deviceSays, GatewayCall, gatewaySays, World, atDevice, atGateway, next}
+use Rattle.upgrade.specs.Demand3.{Before, Ready, deviceThen, start}
 
 module _ (content deviceReply gatewayReply : List ℕ) where
   -- messages that arrive at an end, both facts yes, condition 0
@@ -45,10 +46,14 @@ module _ (content deviceReply gatewayReply : List ℕ) where
       let c : DeviceCall = asked deviceReply in
       answeredByGateway (next content w (atDevice c)) (deviceSays (w .end) c)
 
-  -- the device is asked until it has nothing to send
+  -- the number with which the device answers an ask
+  abbrev pub askedNumber : World → ℕ
+  askedNumber w = nextMessageOf (w .end .device) (w .end .image) (w .end .map) deviceReply .number
+
+  -- the device is asked until it has nothing to send, which is 9
   pub data UntilSilent : World → World → Type 0 where
-    silent : {w : World} → deviceSays (w .end) (asked deviceReply) ≡ [] → UntilSilent w w
-    spoken : {w v : World} → (deviceSays (w .end) (asked deviceReply) ≡ [] → ⊥) → UntilSilent (deviceAsked w) v → UntilSilent w v
+    silent : {w : World} → askedNumber w ≡ 9 → UntilSilent w w
+    spoken : {w v : World} → (askedNumber w ≡ 9 → ⊥) → UntilSilent (deviceAsked w) v → UntilSilent w v
 
   -- the gateway is asked once in Run, the installer reports 00, the device is asked once more
   abbrev pub ending : World → World
@@ -64,12 +69,13 @@ pub record CleanStart (b : Before) (deviceReply gatewayReply : List ℕ) : Type 
   pub device-room : deviceRoom ≤ length deviceReply
   pub gateway-room : gatewayRoom ≤ length gatewayReply
 
--- The clean run comes to an end, and every way in which it does leaves the gateway Ended with 0.
+-- The device falls silent, and whenever it has, the gateway is in Run and the rest of the run leaves it Ended with 0.
 abbrev pub CleanRun : Type 0
 CleanRun =
     (b : Before) (deviceReply gatewayReply : List ℕ) → CleanStart b deviceReply gatewayReply →
     let first : World = gatewayAsked (b .content) deviceReply gatewayReply (start b) in
     ((v : World) × UntilSilent (b .content) deviceReply gatewayReply first v)
     × ((v : World) → UntilSilent (b .content) deviceReply gatewayReply first v →
-        (ending (b .content) deviceReply gatewayReply v .gateway .phase ≡ gateway.ended)
-        × (ending (b .content) deviceReply gatewayReply v .gateway .ending ≡ 0))
+    (v .gateway .phase ≡ gateway.run)
+    × (ending (b .content) deviceReply gatewayReply v .gateway .phase ≡ gateway.ended)
+    × (ending (b .content) deviceReply gatewayReply v .gateway .ending ≡ 0))

@@ -3,3 +3,4 @@ pub mod Calls
 pub mod Held
 pub mod Demand3
 pub mod Clean
+pub mod Counted

@@ -72,9 +72,10 @@ part-run-end-3 c = search needs
 
 -- src/lib.rt:77:9
 run-requires-3 : tie.Need-run-requires-3
-run-requires-3 c κs =
-    (c .before .before .before .before .before .before .before .before .before .before .before .table .ensures,
-    rw (c .before .before .run2 .ensures) (register-fits _ _ (rw (c .before .before .before .before .before .before .run .ensures) (register-fits _ 0 (omega arith)))))
+run-requires-3 c κs = (
+  c .before .before .before .before .before .before .before .before .before .before .before .table .ensures,
+  rw (c .before .before .run2 .ensures) (register-fits _ _ (rw (c .before .before .before .before .before .before .run .ensures) (register-fits _ 0 (omega arith)))),
+)
 
 -- src/lib.rt:78:5
 cast-result : tie.Need-cast-result

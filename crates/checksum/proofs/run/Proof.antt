@@ -46,10 +46,11 @@ element-copy-out-r c = omega arith
 -- src/lib.rt:52:26
 cast-r : tie.Need-cast-r Inv-loop μ-loop
 cast-r c =
-    omega
-    (arith,
-    table-fits (c .before .before .before .before .args .table .now) (bitXor (c .before .before .before .loop .r) (getD (c .before .before .before .before .args .bytes .now) (c .before .before .before .loop .i) 0) % 256) (c .before .before .before .before .pre .0)
-    (omega arith))
+    omega (
+      arith,
+      table-fits (c .before .before .before .before .args .table .now) (bitXor (c .before .before .before .loop .r) (getD (c .before .before .before .before .args .bytes .now) (c .before .before .before .loop .i) 0) % 256) (c .before .before .before .before .pre .0)
+          (omega arith),
+    )
 
 -- src/lib.rt:53:9
 add-i : tie.Need-add-i Inv-loop μ-loop

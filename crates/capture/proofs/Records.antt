@@ -1,0 +1,96 @@
+-- A record is read as it was written, and what is read as one stands in the capture byte for byte. Assumes nothing.
+use Prim.Native.Nat.{ℕ, suc, _+_, _-_, _*_, _/_, _%_, _≤_, _<_}
+use native.Mathlib.Nat.{add-assoc, add-zero}
+use native.Mathlib.Omega.{arith}
+use mathlib.Core.Path.{_≡_, refl, sym, _∙_, ap}
+use mathlib.Core.Bool.{Bool, true, false}
+use mathlib.Core.List.{List, [], _∷_, _++_}
+use lib.Dec.{eqb}
+use lib.ListN.{length, take, drop, getD, length-append, length-take, length-drop}
+use lib.Seq.{getD-append-add, drop-append-add, take-append-seam, take-add, drop-drop}
+use Rattle.basis.specs.Bytes.{Bytes, wordAt, wordBytes, part}
+use Rattle.basis.proofs.Lists.{part-within}
+use Rattle.capture.specs.declared.Step.the-variants.{Record}
+use Rattle.capture.specs.Capture.{markOf, recordBytes, headLength, wrongMark, left, stepAt, placeAfter, partOf}
+use Rattle.capture.proofs.Steps.{Found, found, is-found}
+
+right-mark : (toDevice : Bool) → wrongMark (markOf toDevice) ≡ false
+unfolding wrongMark
+right-mark true = refl
+right-mark false = refl
+
+mark-tells : (toDevice : Bool) → eqb (markOf toDevice) (markOf true) ≡ toDevice
+mark-tells true = refl
+mark-tells false = refl
+
+-- the WORD at a place behind some bytes, and the WORD that its two bytes make
+word-behind : (before rest : List ℕ) (at : ℕ) → wordAt (before ++ rest) (length before + at) ≡ wordAt rest at
+word-behind before rest at = rw (add-assoc (length before) at 1, getD-append-add before rest at 0, getD-append-add before rest (at + 1) 0)
+
+halves : (n : ℕ) → n / 256 * 256 + n % 256 ≡ n
+halves n = omega arith
+
+pub length-record : (toDevice : Bool) (message : List ℕ) → length (recordBytes toDevice message) ≡ headLength + length message
+unfolding recordBytes
+length-record toDevice message = omega arith
+
+-- a record's bytes behind any bytes, none too, and followed by any, are read as that record, its message, and the place behind it.
+-- Only a message of at most 65,535 bytes has a length WORD of two bytes; on lists the laws hold of any
+module _ (before : List ℕ) (toDevice : Bool) (message rest : List ℕ) where
+  abbrev capture : List ℕ
+  capture = before ++ (recordBytes toDevice message ++ rest)
+
+  mark-read : markOf toDevice ≡ wordAt capture (length before)
+  unfolding recordBytes
+  mark-read = sym (ap (wordAt capture) (sym (add-zero (length before))) ∙ word-behind before (recordBytes toDevice message ++ rest) 0 ∙ halves (markOf toDevice))
+
+  length-read : length message ≡ wordAt capture (length before + 2)
+  unfolding recordBytes
+  length-read = sym (word-behind before (recordBytes toDevice message ++ rest) 2 ∙ halves (length message))
+
+  all-there : headLength + length message ≤ left capture (length before)
+  all-there = simp (length-append, length-record) (omega arith)
+
+  pub read-record : stepAt capture (length before) ≡ Record toDevice (length before + headLength) (length message)
+  read-record =
+      sym (found capture (length before) (omega (arith, all-there)) (λ one. omega (arith, all-there)) mark-read (right-mark toDevice) length-read all-there)
+      ∙ ap (λ (d : Bool). Record d (length before + headLength) (length message)) (mark-tells toDevice)
+
+  pub read-message : partOf capture (length before + headLength) (length message) ≡ message
+  unfolding recordBytes
+  read-message = rw (drop-append-add before (recordBytes toDevice message ++ rest) headLength) (take-append-seam message rest)
+
+  pub read-next : placeAfter (stepAt capture (length before)) (length before) ≡ length (before ++ recordBytes toDevice message)
+  read-next = rw (read-record, length-append, length-record) (omega arith)
+
+-- ---- what is read as a record stands there, byte for byte
+
+length-within : (capture : List ℕ) (start count : ℕ) → start + count ≤ length capture → length (partOf capture start count) ≡ count
+length-within capture start count h = simp (length-take, length-drop) (omega arith)
+
+-- the bytes before a message, and two WORDs whose bytes they are
+head-of : (capture : List ℕ) (at : ℕ) → part capture at headLength ≡ getD capture at 0 ∷ getD capture (at + 1) 0 ∷ getD capture (at + 2) 0 ∷ getD capture (at + 2 + 1) 0 ∷ []
+unfolding part
+head-of capture at =
+    let one : suc at ≡ at + 1 = omega arith in
+    let two : suc (suc at) ≡ at + 2 = omega arith in
+    let three : suc (suc (suc at)) ≡ at + 2 + 1 = omega arith in
+    λ i. getD capture at 0 ∷ getD capture (one i) 0 ∷ getD capture (two i) 0 ∷ getD capture (three i) 0 ∷ []
+
+words : (a b c d m n : ℕ) (rest : List ℕ) → b < 256 → d < 256 → a * 256 + b ≡ m → c * 256 + d ≡ n → a ∷ b ∷ c ∷ d ∷ rest ≡ wordBytes m ++ (wordBytes n ++ rest)
+words a b c d m n rest hb hd em en =
+    let pa : a ≡ m / 256 = omega arith in
+    let pb : b ≡ m % 256 = omega arith in
+    let pc : c ≡ n / 256 = omega arith in
+    let pd : d ≡ n % 256 = omega arith in
+    λ i. pa i ∷ pb i ∷ pc i ∷ pd i ∷ rest
+
+pub stands : {toDevice : Bool} {start count : ℕ} (capture : List ℕ) (at : ℕ) → Bytes capture → stepAt capture at ≡ Record toDevice start count
+    → take (headLength + count) (drop at capture) ≡ recordBytes toDevice (partOf capture start count)
+unfolding Bytes recordBytes
+stands {toDevice} {start} {count} capture at bytes e = from-found (is-found capture at e)
+  where
+    from-found : Found capture at toDevice start count → take (headLength + count) (drop at capture) ≡ recordBytes toDevice (partOf capture start count)
+    from-found f =
+        rw (take-add headLength count (drop at capture), drop-drop headLength at capture, ← part-within capture at headLength (omega arith), ← f .behind, head-of)
+        (words _ _ _ _ _ _ (partOf capture start count) (bytes (at + 1)) (bytes (at + 2 + 1)) (f .mark) (f .counted ∙ sym (length-within capture start count (f .within))))

@@ -1,0 +1,62 @@
+-- The numbers by which the definitions recurse cut nothing off: a number below 100,000 is printed whole, and more turns than the bytes
+-- of a capture print nothing more. Assumes nothing.
+use Prim.Native.Nat.{ℕ, zero, suc, _+_, _-_, _*_, _/_, _%_, _^_, _≤_, _<_}
+use native.Mathlib.Nat.{suc-add}
+use native.Mathlib.Omega.{arith}
+use mathlib.Core.Path.{_≡_, refl, sym, _∙_, ap}
+use mathlib.Core.Bool.{Bool, true, false}
+use mathlib.Core.List.{List, [], _∷_, _++_}
+use lib.ListN.{length}
+use borrow.Author.Tests.{ltb-true, ltb-false}
+use Rattle.basis.specs.Choice.{pick}
+use Rattle.basis.proofs.Choosing.{by-cases}
+use Rattle.device.specs.Rules.{After}
+use Rattle.capture.specs.declared.Step.{Step}
+use Rattle.capture.specs.Capture.{stepAt, placeAfter}
+use Rattle.capture.proofs.Steps.{ends}
+use Rattle.transcript.specs.Text.{figures, decimal}
+use Rattle.transcript.specs.Transcript.{after, printed, goesOn, textFrom}
+use Rattle.transcript.proofs.Runs.{Past, past-record}
+
+-- the number that figures say, behind those that were read before
+pub valueFrom : ℕ → List ℕ → ℕ
+valueFrom n [] = n
+valueFrom n (f ∷ fs) = valueFrom (n * 10 + (f - 0x30)) fs
+
+value-last : (n : ℕ) (fs : List ℕ) (d : ℕ) → valueFrom n (fs ++ ((0x30 + d) ∷ [])) ≡ valueFrom n fs * 10 + d
+unfolding valueFrom
+value-last n [] d = omega arith
+value-last n (f ∷ fs) d = value-last (n * 10 + (f - 0x30)) fs d
+
+value-figures : (most n : ℕ) → n < 10 ^ most → valueFrom 0 (figures most n) ≡ n
+unfolding figures valueFrom
+value-figures zero n h = omega arith
+value-figures (suc most) n h =
+    by-cases (λ (l : List ℕ). valueFrom 0 l ≡ n) (λ _. omega arith)
+    (λ _. value-last 0 (figures most (n / 10)) (n % 10) ∙ ap (λ (k : ℕ). k * 10 + n % 10) (value-figures most (n / 10) (omega arith)) ∙ omega arith)
+
+pub decimal-says : (n : ℕ) → n < 100000 → valueFrom 0 (decimal n) ≡ n
+decimal-says n h = value-figures 5 n (omega arith)
+
+-- nothing is printed at the end, however many turns are left
+at-end : (capture : List ℕ) (most number at : ℕ) (s : After) → length capture ≤ at → textFrom capture most number at s ≡ []
+unfolding textFrom after printed goesOn pick
+at-end capture zero number at s h = refl
+at-end capture (suc most) number at s h = rw (← ends capture at h)
+
+same-if : (t : Bool) {a b : List ℕ} → (t ≡ true → a ≡ b) → pick t a [] ≡ pick t b []
+unfolding pick
+same-if true e = e refl
+same-if false e = refl
+
+-- from a place on: as many turns as there are bytes left, and one for the end
+enough : (capture : List ℕ) (most more number at : ℕ) (s : After) → length capture < at + most → textFrom capture (most + more) number at s ≡ textFrom capture most number at s
+unfolding textFrom
+enough capture zero more number at s h = at-end capture (0 + more) number at s (omega arith)
+enough capture (suc most) more number at s h =
+    rw (suc-add most more) (ap (λ (l : List ℕ). printed number (stepAt capture at) (after capture (stepAt capture at) s) ++ l)
+    (same-if (goesOn (stepAt capture at)) (λ t. let p : Past capture at (placeAfter (stepAt capture at) at) = past-record capture at (stepAt capture at) refl t in
+    enough capture most more (number + 1) (placeAfter (stepAt capture at) at) (after capture (stepAt capture at) s) (omega (arith, p .past)))))
+
+pub turns-enough : (capture : List ℕ) (more : ℕ) (s : After) → textFrom capture (suc (length capture) + more) 0 0 s ≡ textFrom capture (suc (length capture)) 0 0 s
+turns-enough capture more s = enough capture (suc (length capture)) more 0 0 s (omega arith)

@@ -1,0 +1,119 @@
+-- The turns of replay one after the other. Assumes nothing.
+use Prim.Native.Nat.{ℕ, zero, suc, _+_, _-_, _*_, _≤_, _<_}
+use native.Mathlib.Nat.{sub-zero}
+use native.Mathlib.Omega.{arith}
+use mathlib.Core.Path.{_≡_, refl, sym, _∙_, ap, subst}
+use mathlib.Core.Bool.{Bool, true, false, not, false≢true}
+use mathlib.Core.List.{List, [], _∷_, _++_, append-nil}
+use lib.ListN.{length, take, length-take}
+use borrow.Author.Tests.{not-true, not-false}
+use Rattle.basis.specs.Choice.{pick}
+use Rattle.basis.proofs.Choosing.{pick-yes, pick-no}
+use Rattle.device.specs.declared.Answer.{Answer}
+use Rattle.device.specs.Rules.{After}
+use Rattle.device.specs.Coded.{afterCall}
+use Rattle.capture.specs.declared.Step.{Step}
+use Rattle.capture.specs.declared.Step.the-variants.{Record, End, Fault}
+use Rattle.capture.specs.Capture.{stepAt, placeAfter, headLength}
+use Rattle.capture.proofs.Steps.{Found, is-found}
+use Rattle.transcript.specs.declared.Turn.{Turn}
+use Rattle.transcript.specs.Transcript.{captureMost, replyLength, line, after, printed, goesOn, textFrom, lineMost, outRoom}
+use Rattle.transcript.specs.Coded.{Emitted, Turned}
+use Rattle.transcript.proofs.Emitting.{Remaining, whole, complete, onward}
+use Rattle.transcript.proofs.Figures.{length-line, length-fault}
+
+-- what is printed in a turn fits in a line
+printed-fits : (number : ℕ) (step : Step) (t : After) → length (t .reply) ≡ replyLength → length (printed number step t) ≤ lineMost
+unfolding printed
+printed-fits number (Record true start count) t e =
+    length-line number (t .number) (t .device .phase) (take (t .length) (t .reply)) (simp length-take (omega arith))
+printed-fits number (Record false start count) t e = omega arith
+printed-fits number End t e = omega arith
+printed-fits number (Fault fault) t e = length-fault fault
+
+-- a record takes four bytes or more, and ends within the capture
+pub record Past (capture : List ℕ) (at next : ℕ) : Type 0 where
+  pub past : at + headLength ≤ next
+  pub within : next ≤ length capture
+
+pub past-record : (capture : List ℕ) (at : ℕ) (step : Step) → stepAt capture at ≡ step → goesOn step ≡ true → Past capture at (placeAfter step at)
+unfolding goesOn
+past-record capture at (Record toDevice start count) e m =
+    let f : Found capture at toDevice start count = is-found capture at e in record { past = omega (arith, f .behind); within = f .within }
+past-record capture at End e m = absurd (false≢true m)
+past-record capture at (Fault number) e m = absurd (false≢true m)
+
+module _ (capture : List ℕ) where
+  abbrev all : ℕ
+  all = suc (length capture)
+
+  -- what is left to print before a turn, and when no turn is left
+  text-on : (number at : ℕ) (s : After) → number ≤ length capture
+      → textFrom capture (all - number) number at s ≡ printed number (stepAt capture at) (after capture (stepAt capture at) s)
+      ++ pick (goesOn (stepAt capture at)) (textFrom capture (all - (number + 1)) (number + 1) (placeAfter (stepAt capture at) at) (after capture (stepAt capture at) s)) []
+  unfolding textFrom
+  text-on number at s h =
+      let a : all - number ≡ suc (length capture - number) = omega arith in
+      let b : all - (number + 1) ≡ length capture - number = omega arith in
+      rw (a, b)
+
+  text-none : (number at : ℕ) (s : After) → length capture < number → textFrom capture (all - number) number at s ≡ []
+  unfolding textFrom
+  text-none number at s h = let a : all - number ≡ 0 = omega arith in rw a
+
+  -- the state before a turn: so much of the text is written, behind so many records, and there is room for what a record prints
+  pub record Reached (before : List ℕ) (s₀ : After) (answer : Answer) (image map reply now : List ℕ) (at end number : ℕ) : Type 0 where
+    pub left : Remaining (textFrom capture all 0 0 s₀) before 0 (textFrom capture (all - number) number at (afterCall answer image map reply)) now end
+    pub place : at ≤ length capture
+    pub written : headLength * end ≤ lineMost * at
+    pub counted : number ≤ all
+    pub buffer : length reply ≡ replyLength
+
+  pub begins : (before : List ℕ) (answer : Answer) (image map reply : List ℕ) → length reply ≡ replyLength → Reached before (afterCall answer image map reply) answer image map reply before 0 0 0
+  begins before answer image map reply e = record { left = rw sub-zero (whole _ before 0); place = omega arith; written = omega arith; counted = omega arith; buffer = e }
+
+  module _ {before : List ℕ} {s₀ : After} {answer : Answer} {image map reply now : List ℕ} {at end number : ℕ} (i : Reached before s₀ answer image map reply now at end number) where
+    -- every turn was taken
+    pub over : length capture < number → Emitted (textFrom capture all 0 0 s₀) before 0 now end
+    over h = complete _ before 0 (rw (text-none number at (afterCall answer image map reply) h) at (i .left))
+
+    module _ (small : length capture ≤ captureMost) (fits : outRoom ≤ length before) where
+      pub turn-room : end + lineMost ≤ length now
+      turn-room = omega (arith, i .left .same, i .place, i .written)
+
+      module _ (h : number ≤ length capture) {r : Turn} {image′ map′ reply′ now′ : List ℕ} (u : Turned capture (stepAt capture at) number at (afterCall answer image map reply) now end r image′ map′ reply′ now′) (b : length reply′ ≡ replyLength) where
+        abbrev step : Step
+        step = stepAt capture at
+
+        abbrev t : After
+        t = after capture step (afterCall answer image map reply)
+
+        next-text : List ℕ
+        next-text = pick (goesOn step) (textFrom capture (all - (number + 1)) (number + 1) (placeAfter step at) t) []
+
+        print-fits : length (printed number step t) ≤ lineMost
+        print-fits = printed-fits number step t (ap (λ (a : After). length (a .reply)) (sym (u .device)) ∙ b)
+
+        turned : Remaining (textFrom capture all 0 0 s₀) before 0 next-text now′ (r .end)
+        unfolding next-text
+        turned =
+            onward _ before 0 (printed number step t) next-text (rw (text-on number at (afterCall answer image map reply) h) at (i .left)) (omega (arith, turn-room, print-fits)) (u .text)
+
+        -- the last turn
+        pub stops : not (r .more) ≡ true → Emitted (textFrom capture all 0 0 s₀) before 0 now′ (r .end)
+        unfolding next-text
+        stops m = complete _ before 0 (rw (pick-no _ _ _ (sym (u .more) ∙ not-true (r .more) m)) at turned)
+
+        -- one record more
+        pub goes-on : not (r .more) ≡ false → Reached before s₀ (r .answer) image′ map′ reply′ now′ (r .at) (r .end) (number + 1)
+        unfolding next-text
+        goes-on m =
+            let y : goesOn step ≡ true = sym (u .more) ∙ not-false (r .more) m in
+            let p : Past capture at (placeAfter step at) = past-record capture at step refl y in
+            record {
+              left = rw (u .place, u .device) (rw (pick-yes _ _ _ y) at turned);
+              place = rw (u .place) (p .within);
+              written = omega (arith, u .place, u .text .place, print-fits, i .written, p .past);
+              counted = omega arith;
+              buffer = b;
+            }

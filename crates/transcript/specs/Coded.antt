@@ -1,0 +1,38 @@
+-- What the code's answers mean. Assumes nothing.
+use Prim.Native.Nat.{ℕ, _+_}
+use mathlib.Core.Path.{_≡_}
+use mathlib.Core.Bool.{true}
+use mathlib.Core.List.{List}
+use lib.ListN.{length}
+use Rattle.basis.specs.Bytes.{patched}
+use Rattle.device.specs.Rules.{After}
+use Rattle.device.specs.Coded.{afterCall}
+use Rattle.capture.specs.declared.Step.{Step}
+use Rattle.capture.specs.Capture.{placeAfter}
+use Rattle.transcript.specs.declared.Turn.{Turn}
+use Rattle.transcript.specs.Transcript.{given, line, after, printed, goesOn, Replayed}
+
+-- text written into a buffer from a place on: the buffer after it, and the place behind it
+pub record Emitted (text before : List ℕ) (at : ℕ) (now : List ℕ) (behind : ℕ) : Type 0 where
+  pub bytes : now ≡ patched at text before
+  pub place : behind ≡ at + length text
+
+-- what a record toward the device leaves: the device that was given its message, and its line
+pub record Given (message : List ℕ) (number at : ℕ) (s : After) (before : List ℕ) (end : ℕ) (r : Turn) (image map reply now : List ℕ)
+    : Type 0 where
+  pub device : afterCall (r .answer) image map reply ≡ given s message
+  pub text : Emitted (line number (given s message)) before end now (r .end)
+  pub place : r .at ≡ at
+  pub more : r .more ≡ true
+
+-- what a turn over a step leaves: the device, what is printed, the next place, and whether more follows
+pub record Turned (capture : List ℕ) (step : Step) (number at : ℕ) (s : After) (before : List ℕ) (end : ℕ) (r : Turn) (image map reply now : List ℕ)
+    : Type 0 where
+  pub device : afterCall (r .answer) image map reply ≡ after capture step s
+  pub text : Emitted (printed number step (after capture step s)) before end now (r .end)
+  pub place : r .at ≡ placeAfter step at
+  pub more : r .more ≡ goesOn step
+
+-- what replay answered, with the buffer that it left
+abbrev pub played : ℕ → List ℕ → Replayed
+played n out = record { length = n; out = out }

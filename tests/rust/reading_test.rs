@@ -1,0 +1,747 @@
+//! Holds the reading against the published messages and the examples of 01. The expected values are written out here.
+
+mod reading;
+mod support;
+
+use reading::capture::{Item, Reader};
+use reading::check::{check, message_check, step, TABLE};
+use reading::device::{self, Device, BUSY, INTERNAL, LOW_POWER, READY, WEAK_SIGNAL};
+use reading::gateway::{self, cut, Gateway};
+use reading::message::{
+    encode, recognise, set_check, Announcement, Facts, ToDevice, ToGateway, BOTH_FACTS, DEVICE_ROOM,
+    GATEWAY_ROOM,
+};
+use reading::replay::{hex, replay, run};
+use reading::{number_of, Answer};
+use std::fmt::Debug;
+use std::process;
+use support::captures::{self, all_toward_device, SAMPLE_SEED};
+use support::messages::{
+    announce, any_announce, download_result, execute, fragment, no_fragment, query, upgrade_result,
+};
+use support::random::Random;
+use support::{bytes, version};
+
+/// The reading's values that were compared with expected ones.
+#[derive(Default)]
+struct Tally {
+    compared: usize,
+    different: usize,
+}
+
+impl Tally {
+    fn same<T: PartialEq + Debug>(&mut self, what: &str, found: T, expected: T) {
+        self.compared += 1;
+        if found != expected {
+            self.different += 1;
+            println!("{}: found {:02X?}, expected {:02X?}", what, found, expected);
+        }
+    }
+}
+
+const V09: &str = "56302E39000000000000000000000000";
+const V10: &str = "56312E30000000000000000000000000";
+
+fn published_to_device() -> Vec<(String, ToDevice<'static>)> {
+    let v10 = version("V1.0");
+    let offer = |size, total, code| ToDevice::Announce(Announcement { version: v10, size, total, code });
+    vec![
+        ("FFFE01134C9A0000".to_string(), ToDevice::Query),
+        (format!("FFFE011402F70016{}01F400011234", V10), offer(500, 1, 0x1234)),
+        (format!("FFFE01143AE60016{}01F400010000", V10), offer(500, 1, 0)),
+        (format!("FFFE011410190016{}0100013D6534", V10), offer(256, 317, 0x6534)),
+        (
+            "FFFE0115E107001300000048454C4C4F2C20496F5420534F544121".to_string(),
+            ToDevice::Fragment { result: 0, index: 0, data: b"HELLO, IoT SOTA!" },
+        ),
+        ("FFFE0116850E000100".to_string(), ToDevice::DownloadResult { result: 0 }),
+        ("FFFE0117CF900000".to_string(), ToDevice::Execute),
+        ("FFFE0118AFA1000100".to_string(), ToDevice::UpgradeResult { result: 0 }),
+    ]
+}
+
+fn published_to_gateway() -> Vec<(String, ToGateway)> {
+    let (v09, v10) = (version("V0.9"), version("V1.0"));
+    vec![
+        (format!("FFFE01138DE3001100{}", V09), ToGateway::Query { version: v09 }),
+        (format!("FFFE01137AB3001100{}", V10), ToGateway::Query { version: v10 }),
+        ("FFFE0114D768000100".to_string(), ToGateway::Announce { result: 0 }),
+        (format!("FFFE011556180012{}0000", V10), ToGateway::Fragment { version: v10, index: 0 }),
+        ("FFFE0116850E000100".to_string(), ToGateway::DownloadResult { result: 0 }),
+        ("FFFE0117B725000100".to_string(), ToGateway::Execute { result: 0 }),
+        (format!("FFFE0118C7D2001100{}", V10), ToGateway::UpgradeResult { result: 0, version: v10 }),
+    ]
+}
+
+/// Each published message is recognised, read as its fields, and written back byte for byte.
+fn published_messages(tally: &mut Tally) {
+    for (text, message) in published_to_device() {
+        let wire = bytes(&text);
+        tally.same(&text, ToDevice::read(BOTH_FACTS, &wire), Ok(message));
+        tally.same(&text, message.write(GATEWAY_ROOM), Ok(wire.clone()));
+        tally.same(&text, message.write(GATEWAY_ROOM - 1), Err(15));
+    }
+    for (text, message) in published_to_gateway() {
+        let wire = bytes(&text);
+        tally.same(&text, ToGateway::read(BOTH_FACTS, &wire), Ok(message));
+        tally.same(&text, message.write(DEVICE_ROOM), Ok(wire.clone()));
+        tally.same(&text, message.write(DEVICE_ROOM - 1), Err(15));
+    }
+}
+
+fn check_rule(tally: &mut Tally) {
+    for (entry, value) in [(0, 0), (1, 0x1021), (137, 0x00A1), (255, 0x1EF0)] {
+        tally.same(&format!("entry {}", entry), TABLE[entry], value);
+    }
+    tally.same("the step that loses information", step(0xA189, 0x00), 0x0000);
+    tally.same("the check of nothing", check(&[]), 0);
+    let announcement = bytes(&format!("FFFE01143AE60016{}01F400010000", V10));
+    for place in (0..announcement.len() - 1).filter(|place| !(3..=5).contains(place)) {
+        let mut changed = announcement.clone();
+        changed[place] ^= 0x0A;
+        changed[place + 1] ^= 0xC3;
+        tally.same("two neighbouring bytes", message_check(&changed), 0x3AE6);
+    }
+}
+
+/// Source 000's misprint, and the order of the tests.
+fn recognition(tally: &mut Tally) {
+    let yes = BOTH_FACTS;
+    let unsupported = Facts { supported: false, is_pcp: true };
+    let not_pcp = Facts { supported: true, is_pcp: false };
+    let neither = Facts { supported: false, is_pcp: false };
+    let misprint = format!("FFFE011402F70016{}01F400010000", V10);
+    for (facts, message, number) in [
+        (yes, misprint.as_str(), 6),
+        (yes, "FFFE01134C9A0000", 0),
+        (neither, "", 1),
+        (unsupported, "FFFE01134C9A0000", 1),
+        (not_pcp, "FFFE01134C9A0000", 2),
+        (yes, "", 3),
+        (yes, "FF", 3),
+        (yes, "FEFF01134C9A0000", 3),
+        (yes, "FFFF0000", 3),
+        (yes, "FFFE", 4),
+        (yes, "FFFE02134C9A0000", 4),
+        (yes, "FFFE1113", 4),
+        (yes, "FFFE01", 5),
+        (yes, "FFFE01124C9A0000", 5),
+        (yes, "FFFE0119", 5),
+        (yes, "FFFE0113", 6),
+        (yes, "FFFE01134C9A", 6),
+        (yes, "FFFE01134C9A00", 6),
+        (yes, "FFFE01134C9B0000", 6),
+        // Bad in check and length: the check comes first.
+        (yes, "FFFE01134C9A0001", 6),
+    ] {
+        tally.same(message, number_of(&recognise(facts, &bytes(message))), number);
+    }
+    let mut longer = bytes("FFFE01134C9A000000");
+    set_check(&mut longer);
+    tally.same("a length that differs, with its check", recognise(yes, &longer), Err(7));
+}
+
+fn bad_data(tally: &mut Tally) {
+    for (size, number) in [(31, 8), (32, 0), (500, 0), (501, 8)] {
+        let message = any_announce(version("V1.0"), size, 1, 0);
+        tally.same("size announced", number_of(&ToDevice::read(BOTH_FACTS, &message)), number);
+        let (started, _) = Gateway::start(version("V1.0"), size, b"package", false);
+        tally.same("size at the start", started, if number == 0 { 0 } else { 18 });
+    }
+    for (total, number) in [(0, 8), (1, 0), (65_535, 0)] {
+        let message = any_announce(version("V1.0"), 32, total, 0);
+        tally.same("total announced", number_of(&ToDevice::read(BOTH_FACTS, &message)), number);
+    }
+    let mut gap = version("V1.0");
+    gap[5] = b'1';
+    for (text, good) in [
+        ([0; 16], false),
+        ([b' '; 16], true),
+        ([b'~'; 16], true),
+        ([0x7F; 16], false),
+        ([0x1F; 16], false),
+        (gap, false),
+        (version("V"), true),
+    ] {
+        tally.same("version text", Device::make(text).0, if good { 0 } else { 17 });
+    }
+    // The other side's readings, and results outside the lists.
+    let long_announcement = format!("{}002000010000 00", V10);
+    let long_fragment = "00".repeat(3 + 501);
+    for (code, data) in [
+        (19, "00"),
+        (20, ""),
+        (20, &long_announcement),
+        (21, "820000"),
+        (21, "80000041"),
+        (21, "0000"),
+        (21, "000000"),
+        (21, &long_fragment),
+        (22, "01"),
+        (22, "0000"),
+        (23, "00"),
+        (24, "81"),
+    ] {
+        let message = encode(code, &bytes(data));
+        tally.same(data, ToDevice::read(BOTH_FACTS, &message), Err(8));
+    }
+    let (query_answer, long_query_answer) = (format!("01{}", V10), format!("00{}00", V10));
+    let long_request = format!("{}000000", V10);
+    let (result_answer, long_result_answer) = (format!("02{}", V10), format!("00{}00", V10));
+    for (code, data) in [
+        (19, ""),
+        (19, &query_answer),
+        (19, &long_query_answer),
+        (20, "06"),
+        (20, "80"),
+        (21, "00"),
+        (21, &long_request),
+        (22, "01"),
+        (22, "09"),
+        (23, ""),
+        (23, "02"),
+        (23, "0A"),
+        (24, "00"),
+        (24, &result_answer),
+        (24, &long_result_answer),
+    ] {
+        let message = encode(code, &bytes(data));
+        tally.same(data, ToGateway::read(BOTH_FACTS, &message), Err(8));
+    }
+    tally.same("a start without package", Gateway::start(version("V1.0"), 32, &[], false).0, 19);
+    let longest = vec![0; 65_535 * 32];
+    tally.same("65,535 fragments", Gateway::start(version("V1.0"), 32, &longest, false).0, 0);
+    let longer = vec![0; 65_535 * 32 + 1];
+    tally.same("65,536 fragments", Gateway::start(version("V1.0"), 32, &longer, false).0, 19);
+}
+
+/// Each message that carries a result, with every byte there.
+fn results(tally: &mut Tally) {
+    let lists: [(u8, &str, &[u8]); 4] = [
+        (20, "", &[0x00, 0x01, 0x02, 0x03, 0x04, 0x05, 0x09, 0x7F]),
+        (22, "", &[0x00, 0x05, 0x06, 0x07, 0x08]),
+        (23, "", &[0x00, 0x01, 0x04, 0x05, 0x09]),
+        (24, V10, &[0x00, 0x01, 0x04, 0x05, 0x09, 0x0A, 0x7F]),
+    ];
+    for (code, rest, list) in lists {
+        for result in 0..=255 {
+            let message = encode(code, &[vec![result], bytes(rest)].concat());
+            let number = if list.contains(&result) { 0 } else { 8 };
+            tally.same("a result", number_of(&ToGateway::read(BOTH_FACTS, &message)), number);
+        }
+    }
+    let lists: [(u8, &str, &[u8]); 4] = [
+        (21, "0102", &[0x80, 0x81]),
+        (21, "0102 03", &[0x00]),
+        (22, "", &[0x00, 0x80]),
+        (24, "", &[0x00, 0x80]),
+    ];
+    for (code, rest, list) in lists {
+        for result in 0..=255 {
+            let message = encode(code, &[vec![result], bytes(rest)].concat());
+            let number = if list.contains(&result) { 0 } else { 8 };
+            tally.same("a result", number_of(&ToDevice::read(BOTH_FACTS, &message)), number);
+        }
+    }
+}
+
+/// A device with its memory.
+#[derive(Clone)]
+struct Bench {
+    device: Device,
+    image: Vec<u8>,
+    map: Vec<u8>,
+}
+
+impl Bench {
+    fn new(image: usize, map: usize) -> Bench {
+        Bench { device: Device::make(version("V0.9")).1, image: vec![0xEE; image], map: vec![0xFF; map] }
+    }
+
+    fn receive_in(&mut self, condition: u8, message: &[u8]) -> Answer {
+        self.device.receive(message, BOTH_FACTS, condition, &mut self.image, &mut self.map, DEVICE_ROOM)
+    }
+
+    fn receive(&mut self, message: &[u8]) -> Answer {
+        self.receive_in(READY, message)
+    }
+
+    /// Number and phase after a message.
+    fn step(&mut self, message: &[u8]) -> (u8, u8) {
+        (self.receive(message).number, self.device.phase)
+    }
+
+    fn next_message(&self) -> Answer {
+        self.device.next_message(&self.image, &self.map, DEVICE_ROOM)
+    }
+}
+
+/// The result byte that a reply carries.
+fn result(answer: &Answer) -> u8 {
+    answer.reply[8]
+}
+
+fn announcements(tally: &mut Tally) {
+    let v10 = version("V1.0");
+    let mut bench = Bench::new(96, 1);
+    for (condition, message, answer) in [
+        (BUSY, announce(v10, 32, 3, 7), 0x01),
+        (WEAK_SIGNAL, announce(v10, 32, 3, 7), 0x02),
+        (LOW_POWER, announce(v10, 500, 65_535, 7), 0x04),
+        (INTERNAL, announce(v10, 32, 3, 7), 0x7F),
+        (READY, announce(version("V0.9"), 500, 65_535, 7), 0x03),
+        (READY, announce(v10, 33, 3, 7), 0x05),
+        (READY, announce(v10, 32, 3, 7), 0x00),
+    ] {
+        let answered = bench.receive_in(condition, &message);
+        tally.same("announcement", (answered.number, result(&answered)), (0, answer));
+    }
+    tally.same("the map is cleared", (bench.device.phase, bench.map[0]), (1, 0));
+    let mut small = Bench::new(9 * 32, 1);
+    tally.same("a map too small", result(&small.receive(&announce(v10, 32, 9, 7))), 0x09);
+    // March: only the same four fields with a code resume.
+    tally.same("a fragment", bench.step(&fragment(0, &[1; 32])), (0, 1));
+    tally.same("resume", (bench.step(&announce(v10, 32, 3, 7)), bench.device.stored), ((0, 1), 1));
+    tally.same("a recut", (bench.step(&announce(v10, 32, 3, 8)), bench.device.stored), ((0, 1), 0));
+    tally.same("a fragment", bench.step(&fragment(0, &[1; 32])), (0, 1));
+    tally.same("no code", (bench.step(&announce(v10, 32, 3, 0)), bench.device.stored), ((0, 1), 0));
+    tally.same("a fragment", bench.step(&fragment(0, &[1; 32])), (0, 1));
+    tally.same("no code again", (bench.step(&announce(v10, 32, 3, 0)), bench.device.stored), ((0, 1), 0));
+}
+
+/// Resuming takes phase 1 to 3, a code, and the same four fields.
+fn resumes(tally: &mut Tally) {
+    let held = Announcement { version: version("V1.0"), size: 64, total: 2, code: 7 };
+    for phase in device::IDLE..=device::FAILED {
+        for (offer, same) in [
+            (held, true),
+            (Announcement { version: version("V1.1"), ..held }, false),
+            (Announcement { size: 63, ..held }, false),
+            (Announcement { total: 1, ..held }, false),
+            (Announcement { code: 8, ..held }, false),
+            (Announcement { code: 0, ..held }, false),
+        ] {
+            let mut bench = Bench::new(128, 2);
+            bench.receive(&announce(held.version, held.size, held.total, held.code));
+            bench.receive(&fragment(1, &[1; 5]));
+            bench.device.phase = phase;
+            let before = bench.clone();
+            bench.receive(&announce(offer.version, offer.size, offer.total, offer.code));
+            let resumed = same && (device::LOADING..=device::ACKED).contains(&phase);
+            tally.same("resumed", bench.device == before.device && bench.map == before.map, resumed);
+            if !resumed {
+                let Device { phase, stored, last, .. } = bench.device;
+                tally.same("afresh", (phase, stored, last, bench.device.held()), (1, 0, 0, offer));
+                tally.same("the map", bench.map, vec![0x00, 0xFF]);
+            }
+        }
+    }
+}
+
+fn fragments(tally: &mut Tally) {
+    let v10 = version("V1.0");
+    let package = captures::package(1, 2 * 32 + 5);
+    let mut bench = Bench::new(96, 1);
+    tally.same("out of phase", bench.step(&fragment(0, &[1; 32])), (9, 0));
+    tally.same("out of phase", bench.step(&no_fragment(0x80, 0)), (9, 0));
+    bench.receive(&announce(v10, 32, 3, check(&package)));
+    tally.same("lowest missing", bench.next_message().reply[24..].to_vec(), vec![0, 0]);
+    tally.same("index", bench.step(&fragment(3, &[1; 500])), (10, 1));
+    tally.same("length", bench.step(&fragment(1, &[1; 31])), (11, 1));
+    tally.same("length", bench.step(&fragment(2, &[1; 33])), (11, 1));
+    tally.same("not there", bench.step(&no_fragment(0x81, 0)), (0, 1));
+    tally.same("the last first", bench.step(&fragment(2, cut(&package, 32, 2))), (0, 1));
+    // Repeats do not complete the download.
+    for _ in 0..3 {
+        tally.same("a repeat", bench.step(&fragment(2, &[1; 32])), (12, 1));
+    }
+    tally.same("the first", bench.step(&fragment(0, cut(&package, 32, 0))), (0, 1));
+    tally.same("lowest missing", bench.next_message().reply[24..].to_vec(), vec![0, 1]);
+    tally.same("length before repeat", bench.step(&fragment(0, &[1; 5])), (11, 1));
+    tally.same("all stored", bench.clone().step(&fragment(1, cut(&package, 32, 1))), (0, 2));
+    tally.same("other bytes", bench.step(&fragment(1, &[1; 32])), (0, 4));
+    tally.same("the failure is reported", result(&bench.next_message()), 0x07);
+    tally.same("and answered", bench.step(&download_result(0x00)), (0, 0));
+    bench.receive(&announce(v10, 32, 3, 0));
+    tally.same("no such task", bench.step(&no_fragment(0x80, 0)), (0, 0));
+    tally.same("nothing to send", bench.next_message().number, 9);
+}
+
+/// A device that has one fragment of 16 bytes loaded.
+fn loaded() -> Bench {
+    let mut bench = Bench::new(500, 1);
+    bench.receive(&announce(version("V1.0"), 500, 1, 0));
+    bench.receive(&fragment(0, b"HELLO, IoT SOTA!"));
+    bench
+}
+
+fn execution(tally: &mut Tally) {
+    for (condition, answer, phase) in
+        [(READY, 0x00, 5), (BUSY, 0x01, 2), (WEAK_SIGNAL, 0x00, 5), (LOW_POWER, 0x04, 2), (INTERNAL, 0x01, 2)]
+    {
+        let mut bench = loaded();
+        let answered = bench.receive_in(condition, &execute());
+        tally.same("execute", (result(&answered), bench.device.phase), (answer, phase));
+    }
+    let mut bench = loaded();
+    tally.same("loaded is reported", hex(&bench.next_message().reply), "FFFE0116850E000100".to_string());
+    tally.same("no such task", bench.clone().step(&download_result(0x80)), (0, 0));
+    tally.same("acknowledged", bench.step(&download_result(0x00)), (0, 3));
+    tally.same("nothing to send", bench.next_message().number, 9);
+    tally.same("not now", bench.device.install_finished(0x00), 9);
+    tally.same("execute", bench.step(&execute()), (0, 5));
+    tally.same("again, busy", result(&bench.receive_in(BUSY, &execute())), 0x00);
+    tally.same("announced meanwhile", result(&bench.receive(&announce(version("V2"), 32, 1, 0))), 0x01);
+    tally.same("an unknown code", bench.device.install_finished(0x02), 16);
+    let mut failed = bench.clone();
+    tally.same("installer fails", failed.device.install_finished(0x0A), 0);
+    let report = (result(&failed.next_message()), failed.device.running);
+    tally.same("the failure is reported", report, (0x0A, version("V0.9")));
+    tally.same("installer ends", (bench.device.install_finished(0x00), bench.device.phase), (0, 6));
+    let report = format!("FFFE0118C7D2001100{}", V10);
+    tally.same("success is reported", hex(&bench.next_message().reply), report);
+    tally.same("execute while reporting", result(&bench.receive(&execute())), 0x01);
+    tally.same("answered", bench.step(&upgrade_result(0x80)), (0, 0));
+    tally.same("execute when idle", result(&bench.receive(&execute())), 0x01);
+}
+
+/// A record in any phase: one fragment of 16 bytes, missing only in Loading.
+fn in_phase(phase: u8) -> Bench {
+    let mut bench = loaded();
+    bench.device.phase = phase;
+    if phase == device::LOADING {
+        bench.device.stored = 0;
+        bench.device.last = 0;
+        bench.map[0] = 0;
+    }
+    bench
+}
+
+/// Number and phase afterwards for the messages that most phases have no use for, and what each phase sends.
+fn phases(tally: &mut Tally) {
+    let no_use = [(9, 0), (9, 1), (9, 2), (9, 3), (9, 4), (9, 5), (9, 6)];
+    let but = |changed: &[(usize, (u8, u8))]| {
+        let mut expected = no_use;
+        for (phase, outcome) in changed {
+            expected[*phase] = *outcome;
+        }
+        expected
+    };
+    for (message, expected) in [
+        (no_fragment(0x80, 0), but(&[(1, (0, 0))])),
+        (no_fragment(0x81, 0), but(&[(1, (0, 1))])),
+        (fragment(0, &[1]), but(&[(1, (0, 2))])),
+        (fragment(1, &[1]), but(&[(1, (10, 1))])),
+        (download_result(0x00), but(&[(2, (0, 3)), (4, (0, 0))])),
+        (download_result(0x80), but(&[(2, (0, 0)), (4, (0, 0))])),
+        (upgrade_result(0x00), but(&[(6, (0, 0))])),
+        (upgrade_result(0x80), but(&[(6, (0, 0))])),
+        (execute(), [(0, 0), (0, 1), (0, 5), (0, 5), (0, 4), (0, 5), (0, 6)]),
+        (query(), [(0, 0), (0, 1), (0, 2), (0, 3), (0, 4), (0, 5), (0, 6)]),
+    ] {
+        for phase in device::IDLE..=device::REPORTING {
+            let found = in_phase(phase).step(&message);
+            tally.same(&hex(&message), found, expected[usize::from(phase)]);
+        }
+    }
+    for (phase, answer) in [0x01, 0x01, 0x00, 0x00, 0x01, 0x00, 0x01].iter().enumerate() {
+        tally.same("execute", result(&in_phase(phase as u8).receive(&execute())), *answer);
+    }
+    for (phase, code) in [None, Some(21), Some(22), None, Some(22), None, Some(24)].iter().enumerate() {
+        let sent = in_phase(phase as u8).next_message();
+        tally.same(
+            "next message",
+            (sent.number, sent.reply.get(3)),
+            (if code.is_some() { 0 } else { 9 }, code.as_ref()),
+        );
+    }
+}
+
+/// Several faults at once give the number that comes first in the order.
+fn order(tally: &mut Tally) {
+    let no = Facts { supported: false, is_pcp: false };
+    let mut bench = loaded();
+    bench.device.last = 501;
+    let mut receive = |room, condition, last: u16, image: usize, facts, message: &[u8]| {
+        bench.device.last = last;
+        bench
+            .device
+            .receive(message, facts, condition, &mut bench.image[..image], &mut bench.map, room)
+            .number
+    };
+    tally.same("order", receive(25, 3, 501, 499, no, &[]), 15);
+    tally.same("order", receive(26, 3, 501, 499, no, &[]), 13);
+    tally.same("order", receive(26, 0, 501, 499, no, &[]), 29);
+    tally.same("order", receive(26, 0, 500, 499, no, &[]), 14);
+    tally.same("order", receive(26, 0, 500, 500, no, &[]), 1);
+    tally.same("order", receive(26, 0, 500, 500, BOTH_FACTS, &upgrade_result(0)), 9);
+    let mut full = Bench::new(96, 1);
+    full.receive(&announce(version("V1.0"), 32, 3, 7));
+    full.map[0] = 0x07;
+    tally.same("asking with a full map", full.next_message().number, 29);
+    full.image.truncate(95);
+    tally.same("asking, image too short", full.next_message().number, 14);
+}
+
+type Damage = (&'static str, fn(&mut Device));
+
+/// Each field of the record out of its range.
+fn broken_records(tally: &mut Tally) {
+    let always: [Damage; 4] = [
+        ("phase", |device| device.phase = 7),
+        ("kept code", |device| device.outcome = 0x02),
+        ("running", |device| device.running = [0; 16]),
+        ("target", |device| device.version[0] = 0x1F),
+    ];
+    let with_download: [Damage; 5] = [
+        ("size", |device| device.size = 31),
+        ("size", |device| device.size = 501),
+        ("total", |device| device.total = 0),
+        ("stored", |device| device.stored = device.total + 1),
+        ("last", |device| device.last = device.size + 1),
+    ];
+    for phase in device::IDLE..=device::REPORTING {
+        let mut sound = loaded();
+        sound.device.phase = phase;
+        sound.device.stored = u16::from(phase != device::LOADING);
+        tally.same("a sound record", sound.clone().receive(&query()).number, 0);
+        let idle = phase == device::IDLE;
+        let all = always.iter().map(|damage| (damage, 29));
+        let all = all.chain(with_download.iter().map(|damage| (damage, if idle { 0 } else { 29 })));
+        for ((field, damage), number) in all {
+            let mut bench = sound.clone();
+            damage(&mut bench.device);
+            tally.same(field, bench.receive(&query()).number, number);
+        }
+    }
+    let mut counted = loaded();
+    counted.device.phase = device::LOADING;
+    tally.same("all stored in Loading", counted.receive(&query()).number, 29);
+    tally.same("all zero", Device::default().install_finished(0x00), 29);
+}
+
+/// A record in which every field may be out of its range, with memory that may be too short.
+fn any_bench(random: &mut Random) -> Bench {
+    let total = random.pick(&[0, 1, 2, 3, 9]);
+    let size = random.pick(&[31, 32, 33, 500, 501]);
+    let device = Device {
+        phase: random.below(8) as u8,
+        running: random.pick(&[version("V0.9"), version("V1.0"), [0; 16]]),
+        version: random.pick(&[version("V1.0"), version("V1.1"), [0x1F; 16]]),
+        size,
+        total,
+        code: random.below(2) as u16,
+        stored: random.below(usize::from(total) + 2) as u16,
+        last: random.below(usize::from(size) + 2) as u16,
+        outcome: random.pick(&[0x00, 0x0A, 0x02]),
+    };
+    let (image, map) = (random.below(5_000), random.below(4));
+    Bench { device, image: random.bytes(image), map: random.bytes(map) }
+}
+
+fn any_message(random: &mut Random) -> Vec<u8> {
+    let length = random.pick(&[1, 31, 32, 33, 500]);
+    let index = random.below(4) as u16;
+    match random.below(8) {
+        0 => query(),
+        1 => execute(),
+        2 => download_result(random.pick(&[0x00, 0x80])),
+        3 => upgrade_result(random.pick(&[0x00, 0x80])),
+        4 => announce(version("V1.0"), random.pick(&[32, 33, 500]), random.pick(&[1, 3, 9, 65_535]), 1),
+        5 => no_fragment(random.pick(&[0x80, 0x81]), index),
+        6 => fragment(index, &random.bytes(length)),
+        _ => random.bytes(length),
+    }
+}
+
+/// Whether one random call at the device was refused and yet left something changed, or gave a reply.
+fn refusal_changes(random: &mut Random) -> bool {
+    let mut bench = any_bench(random);
+    let before = bench.clone();
+    let room = random.pick(&[25, 26, 26, 26]);
+    let answer = match random.below(4) {
+        0 => bench.device.next_message(&bench.image, &bench.map, room),
+        1 => Answer { number: bench.device.install_finished(random.pick(&[0, 2, 10])), reply: Vec::new() },
+        _ => {
+            let condition = random.pick(&[0, 0, 0, 1, 2, 3, 4, 127]);
+            let message = any_message(random);
+            bench.device.receive(&message, BOTH_FACTS, condition, &mut bench.image, &mut bench.map, room)
+        }
+    };
+    let same = (bench.device, bench.image, bench.map) == (before.device, before.image, before.map);
+    answer.number != 0 && !(same && answer.reply.is_empty())
+}
+
+fn refusals(tally: &mut Tally) {
+    let mut random = Random::new(1);
+    let changes = (0..50_000).filter(|_| refusal_changes(&mut random)).count();
+    tally.same("refusals that change something", changes, 0);
+}
+
+/// The gateway in any phase, given one message in a phase: number, phase, ending, result of the reply.
+fn at_gateway(phase: u8, message: ToGateway) -> (u8, u8, u8, Option<u8>) {
+    let mut gateway = Gateway::start(version("V1.0"), 32, &[7; 40], true).1;
+    gateway.phase = phase;
+    let message = message.write(DEVICE_ROOM).expect("the message fits the table");
+    let answer = gateway.receive(&message, BOTH_FACTS, &[7; 40], GATEWAY_ROOM);
+    (answer.number, gateway.phase, gateway.ending, answer.reply.get(8).copied())
+}
+
+fn gateway_steps(tally: &mut Tally) {
+    use gateway::{ASK, ENDED, OFFER, RUN, SERVE};
+    let (v09, v10) = (version("V0.9"), version("V1.0"));
+    let requests = |version, index| ToGateway::Fragment { version, index };
+    let loaded = |result| ToGateway::DownloadResult { result };
+    let upgraded = |result, version| ToGateway::UpgradeResult { result, version };
+    for (phase, message, expected) in [
+        (ASK, ToGateway::Query { version: v10 }, (0, ENDED, 1, None)),
+        (ASK, ToGateway::Query { version: v09 }, (0, OFFER, 0, None)),
+        (OFFER, ToGateway::Query { version: v09 }, (9, OFFER, 0, None)),
+        (OFFER, ToGateway::Announce { result: 0x00 }, (0, SERVE, 0, None)),
+        (OFFER, ToGateway::Announce { result: 0x03 }, (0, ENDED, 2, None)),
+        (SERVE, ToGateway::Announce { result: 0x03 }, (9, SERVE, 0, None)),
+        (SERVE, requests(v10, 1), (0, SERVE, 0, Some(0x00))),
+        (RUN, requests(v10, 2), (0, RUN, 0, Some(0x81))),
+        (RUN, requests(v09, 2), (0, RUN, 0, Some(0x80))),
+        (OFFER, requests(v10, 0), (0, OFFER, 0, Some(0x80))),
+        (SERVE, loaded(0x00), (0, RUN, 0, Some(0x00))),
+        (SERVE, loaded(0x07), (0, ENDED, 3, Some(0x00))),
+        (RUN, loaded(0x07), (0, RUN, 0, Some(0x00))),
+        (ENDED, loaded(0x00), (0, ENDED, 0, Some(0x80))),
+        (RUN, ToGateway::Execute { result: 0x00 }, (0, RUN, 0, None)),
+        (RUN, ToGateway::Execute { result: 0x04 }, (0, ENDED, 4, None)),
+        (SERVE, ToGateway::Execute { result: 0x04 }, (9, SERVE, 0, None)),
+        (RUN, upgraded(0x00, v10), (0, ENDED, 0, Some(0x00))),
+        (RUN, upgraded(0x00, v09), (0, ENDED, 5, Some(0x00))),
+        (RUN, upgraded(0x0A, v10), (0, ENDED, 5, Some(0x00))),
+        (SERVE, upgraded(0x00, v10), (0, SERVE, 0, Some(0x80))),
+    ] {
+        tally.same(
+            &format!("gateway in {} given {:?}", phase, message),
+            at_gateway(phase, message),
+            expected,
+        );
+    }
+}
+
+fn gateway_refusals(tally: &mut Tally) {
+    let sound = Gateway::start(version("V1.0"), 32, &[7; 40], true).1;
+    let ask = |gateway: &Gateway, package: &[u8], room| gateway.next_message(package, room).number;
+    tally.same("sound", ask(&sound, &[7; 40], 511), 0);
+    tally.same("buffer", ask(&Gateway::default(), &[], 510), 15);
+    tally.same("all zero", ask(&Gateway::default(), &[], 511), 29);
+    tally.same("phase", ask(&Gateway { phase: 5, ..sound.clone() }, &[], 511), 29);
+    tally.same("ending", ask(&Gateway { ending: 6, ..sound.clone() }, &[], 511), 29);
+    tally.same("ending", ask(&Gateway { ending: 5, ..sound.clone() }, &[7; 40], 511), 0);
+    tally.same("size", ask(&Gateway { size: 31, ..sound.clone() }, &[], 511), 29);
+    tally.same("length", ask(&Gateway { length: 0, ..sound.clone() }, &[], 511), 29);
+    tally.same("length", ask(&Gateway { length: 65_535 * 32 + 1, ..sound.clone() }, &[], 511), 29);
+    tally.same("package", ask(&sound, &[7; 39], 511), 14);
+    tally.same("nothing to send", ask(&Gateway { phase: 2, ..sound.clone() }, &[7; 40], 511), 9);
+    tally.same("nothing to send", ask(&Gateway { phase: 4, ..sound }, &[7; 40], 511), 9);
+}
+
+/// 01's clean run.
+fn clean_run(tally: &mut Tally) {
+    let package = captures::package(2, 1_000);
+    let mut bench = Bench::new(1_024, 4);
+    let mut gateway = Gateway::start(version("V1.0"), 64, &package, true).1;
+    // Query and announcement.
+    for _ in 0..2 {
+        let message = gateway.next_message(&package, GATEWAY_ROOM).reply;
+        let reply = bench.receive(&message).reply;
+        tally.same("answered", gateway.receive(&reply, BOTH_FACTS, &package, GATEWAY_ROOM).number, 0);
+    }
+    // 16 fragments and the download result.
+    for _ in 0..17 {
+        let request = bench.next_message().reply;
+        let reply = gateway.receive(&request, BOTH_FACTS, &package, GATEWAY_ROOM).reply;
+        tally.same("handled", bench.receive(&reply).number, 0);
+    }
+    tally.same("nothing to send", bench.next_message().number, 9);
+    let message = gateway.next_message(&package, GATEWAY_ROOM).reply;
+    let reply = bench.receive(&message).reply;
+    tally.same("executing", gateway.receive(&reply, BOTH_FACTS, &package, GATEWAY_ROOM).number, 0);
+    tally.same("installed", bench.device.install_finished(0x00), 0);
+    let report = bench.next_message().reply;
+    gateway.receive(&report, BOTH_FACTS, &package, GATEWAY_ROOM);
+    tally.same("the ending", (gateway.phase, gateway.ending), (4, 0));
+    tally.same("the image", &bench.image[..1_000], &package[..]);
+    tally.same("after the image", &bench.image[1_000..], &[0xEE; 24][..]);
+}
+
+fn reader(tally: &mut Tally) {
+    let capture = bytes("4C3E0002AABB 4C3C0000 4C3D");
+    let mut reader = Reader::new(&capture);
+    let first = Item::Record { toward_device: true, message: &[0xAA, 0xBB] };
+    tally.same("first record", reader.next_record(), first);
+    tally.same("second record", reader.next_record(), Item::Record { toward_device: false, message: &[] });
+    for _ in 0..2 {
+        tally.same("wrong mark", (reader.next_record(), reader.place), (Item::Fault(20), 10));
+    }
+    for (rest, item) in
+        [("", Item::End), ("4D", Item::Fault(21)), ("4C3E", Item::Fault(21)), ("3E4C", Item::Fault(20))]
+    {
+        tally.same(rest, Reader::new(&bytes(rest)).next_record(), item);
+    }
+    for rest in ["4C3C00", "4C3E0001", "4C3EFFFF00"] {
+        tally.same(rest, Reader::new(&bytes(rest)).next_record(), Item::Fault(21));
+    }
+}
+
+const FOUR_LINES: &str = "\
+0 0 0 FFFE01138DE300110056302E39000000000000000000000000
+1 0 1 FFFE0114D768000100
+2 0 2 -
+3 0 5 FFFE0117B725000100
+";
+
+fn replays(tally: &mut Tally) {
+    let wires: Vec<Vec<u8>> = [
+        "FFFE01134C9A0000".to_string(),
+        format!("FFFE01143AE60016{}01F400010000", V10),
+        "FFFE0115E107001300000048454C4C4F2C20496F5420534F544121".to_string(),
+        "FFFE0117CF900000".to_string(),
+    ]
+    .iter()
+    .map(|text| bytes(text))
+    .collect();
+    let four = all_toward_device(&wires);
+    tally.same("01's lines", replay(&four).as_str(), FOUR_LINES);
+    tally.same("the sample", captures::four_records(), four.clone());
+    tally.same("nothing", replay(&[]).as_str(), "");
+    tally.same("one byte", replay(&[0x4C]).as_str(), "21\n");
+    let mixed = [bytes("4C3C0001AA"), four].concat();
+    let answer = format!("1 0 0 FFFE01138DE3001100{}", V09);
+    tally.same("all are counted", replay(&mixed).lines().next(), Some(answer.as_str()));
+    tally.same("too long", replay(&vec![0; 32_769]).as_str(), "21\n");
+    tally.same("as long as can be", replay(&vec![0; 32_768]).as_str(), "20\n");
+    let recut = run(&captures::recut(SAMPLE_SEED));
+    let (_, second) = captures::builds();
+    tally.same("the recut's end", recut.device.phase, 2);
+    tally.same("the recut's bytes", &recut.image[..second.len()], &second[..]);
+}
+
+fn main() {
+    let mut tally = Tally::default();
+    check_rule(&mut tally);
+    published_messages(&mut tally);
+    recognition(&mut tally);
+    bad_data(&mut tally);
+    results(&mut tally);
+    announcements(&mut tally);
+    resumes(&mut tally);
+    fragments(&mut tally);
+    execution(&mut tally);
+    phases(&mut tally);
+    order(&mut tally);
+    broken_records(&mut tally);
+    refusals(&mut tally);
+    gateway_steps(&mut tally);
+    gateway_refusals(&mut tally);
+    clean_run(&mut tally);
+    reader(&mut tally);
+    replays(&mut tally);
+    println!("reading: {} compared, {} different", tally.compared, tally.different);
+    process::exit(i32::from(tally.different > 0));
+}

@@ -1,0 +1,39 @@
+//! Writes the sample captures and what the replay program prints for them into a folder.
+
+mod reading;
+mod support;
+
+use reading::replay::replay;
+use std::path::Path;
+use std::{env, fs, io, process};
+use support::captures::{self, SAMPLE_SEED};
+
+fn samples() -> [(&'static str, Vec<u8>); 5] {
+    [
+        ("four-records", captures::four_records()),
+        ("full-download", captures::full_download(SAMPLE_SEED)),
+        ("recut", captures::recut(SAMPLE_SEED)),
+        ("damaged", captures::damaged()),
+        ("cut", captures::cut()),
+    ]
+}
+
+fn write_samples(folder: &Path) -> io::Result<()> {
+    fs::create_dir_all(folder)?;
+    for (name, capture) in samples() {
+        fs::write(folder.join(format!("{}.capture", name)), &capture)?;
+        fs::write(folder.join(format!("{}.expected", name)), replay(&capture))?;
+    }
+    Ok(())
+}
+
+fn main() {
+    let folder = env::args_os().nth(1).unwrap_or_else(|| {
+        eprintln!("usage: samples FOLDER");
+        process::exit(2);
+    });
+    if let Err(error) = write_samples(Path::new(&folder)) {
+        eprintln!("samples: {}", error);
+        process::exit(1);
+    }
+}

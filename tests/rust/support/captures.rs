@@ -1,0 +1,224 @@
+//! Captures for the samples and for the checks of the replay program.
+
+use super::messages::{announce, execute, fragment, query};
+use super::random::Random;
+use super::version;
+use crate::reading::capture::{FROM_DEVICE, TOWARD_DEVICE};
+use crate::reading::device::{is_stored, Device, READY};
+use crate::reading::gateway::Gateway;
+use crate::reading::message::{ToGateway, BOTH_FACTS, DEVICE_ROOM, GATEWAY_ROOM};
+use crate::reading::replay::{IMAGE_LENGTH, MAP_LENGTH, RUNNING};
+
+/// Fixes what gets lost, repeated and reordered in the samples.
+pub const SAMPLE_SEED: u64 = 7;
+
+/// How many fragments the recorded device asks for at a time.
+const ASKED_AT_ONCE: usize = 3;
+
+/// A capture while it is written.
+#[derive(Clone, Debug, Default)]
+pub struct Writer {
+    pub bytes: Vec<u8>,
+}
+
+impl Writer {
+    pub fn add_toward_device(&mut self, message: &[u8]) {
+        self.add(TOWARD_DEVICE, message);
+    }
+
+    pub fn add_from_device(&mut self, message: &[u8]) {
+        self.add(FROM_DEVICE, message);
+    }
+
+    pub fn add(&mut self, mark: [u8; 2], message: &[u8]) {
+        let length = u16::try_from(message.len()).expect("a record fits its length field");
+        self.bytes.extend(mark);
+        self.bytes.extend(length.to_be_bytes());
+        self.bytes.extend(message);
+    }
+}
+
+/// A capture of messages toward the device.
+pub fn all_toward_device(messages: &[Vec<u8>]) -> Vec<u8> {
+    let mut capture = Writer::default();
+    for message in messages {
+        capture.add_toward_device(message);
+    }
+    capture.bytes
+}
+
+/// The four messages of 01's example: query, announcement, the one fragment, execute.
+pub fn four_messages() -> Vec<Vec<u8>> {
+    vec![query(), announce(version("V1.0"), 500, 1, 0), fragment(0, b"HELLO, IoT SOTA!"), execute()]
+}
+
+pub fn four_records() -> Vec<u8> {
+    all_toward_device(&four_messages())
+}
+
+/// An upgrade as it is recorded at the device: what arrives there, and what the device sends. Requests and fragments
+/// may get lost, come twice or overtake each other.
+pub struct Session {
+    pub device: Device,
+    pub image: Vec<u8>,
+    pub map: Vec<u8>,
+    pub capture: Writer,
+    pub random: Random,
+}
+
+/// A gateway with its package.
+#[derive(Clone, Debug)]
+pub struct Server {
+    pub gateway: Gateway,
+    pub package: Vec<u8>,
+}
+
+impl Server {
+    pub fn new(text: &str, size: u16, package: &[u8], with_code: bool) -> Server {
+        let (number, gateway) = Gateway::start(version(text), size, package, with_code);
+        assert_eq!(number, 0, "the gateway starts");
+        Server { gateway, package: package.to_vec() }
+    }
+
+    pub fn next_message(&self) -> Vec<u8> {
+        self.gateway.next_message(&self.package, GATEWAY_ROOM).reply
+    }
+
+    pub fn receive(&mut self, message: &[u8]) -> Vec<u8> {
+        self.gateway.receive(message, BOTH_FACTS, &self.package, GATEWAY_ROOM).reply
+    }
+}
+
+impl Session {
+    pub fn new(seed: u64) -> Session {
+        Session {
+            device: Device::make(RUNNING).1,
+            image: vec![0; IMAGE_LENGTH],
+            map: vec![0; MAP_LENGTH],
+            capture: Writer::default(),
+            random: Random::new(seed),
+        }
+    }
+
+    /// A message arrives at the device; returns the reply, which is recorded too.
+    pub fn deliver(&mut self, message: &[u8]) -> Vec<u8> {
+        self.capture.add_toward_device(message);
+        let reply = self
+            .device
+            .receive(message, BOTH_FACTS, READY, &mut self.image, &mut self.map, DEVICE_ROOM)
+            .reply;
+        if !reply.is_empty() {
+            self.capture.add_from_device(&reply);
+        }
+        reply
+    }
+
+    /// The gateway's own next message makes its way there and back.
+    pub fn exchange(&mut self, server: &mut Server) {
+        let message = server.next_message();
+        let reply = self.deliver(&message);
+        server.receive(&reply);
+    }
+
+    /// Query and announcement.
+    pub fn offer(&mut self, server: &mut Server) {
+        self.exchange(server);
+        self.exchange(server);
+    }
+
+    /// Fragments are asked for until so many are stored.
+    pub fn download(&mut self, server: &mut Server, wanted: u16) {
+        let mut air = Vec::new();
+        while self.device.stored < wanted {
+            self.request(server, &mut air);
+            self.random.shuffle(&mut air);
+            let late = if self.random.once_in(2) { air.pop() } else { None };
+            for message in air.drain(..) {
+                if self.device.stored < wanted {
+                    self.deliver(&message);
+                }
+            }
+            air.extend(late);
+        }
+    }
+
+    /// The lowest missing fragments are asked for; what comes back is put on the air.
+    fn request(&mut self, server: &mut Server, air: &mut Vec<Vec<u8>>) {
+        let map = self.map.clone();
+        let missing = (0..self.device.total).filter(|index| !is_stored(&map, *index));
+        for index in missing.take(ASKED_AT_ONCE) {
+            let request = ToGateway::Fragment { version: self.device.version, index };
+            let request = request.write(DEVICE_ROOM).expect("the request fits the table");
+            self.capture.add_from_device(&request);
+            let reply = server.receive(&request);
+            let copies = self.random.pick(&[0, 1, 1, 1, 2]);
+            air.extend(vec![reply; copies]);
+        }
+    }
+
+    /// The device reports its download and is told the answer.
+    pub fn report(&mut self, server: &mut Server) {
+        let report = self.device.next_message(&self.image, &self.map, DEVICE_ROOM).reply;
+        self.capture.add_from_device(&report);
+        let answer = server.receive(&report);
+        self.deliver(&answer);
+    }
+}
+
+/// A package whose bytes do not repeat with the fragments.
+pub fn package(seed: u64, length: usize) -> Vec<u8> {
+    Random::new(seed).bytes(length)
+}
+
+/// Twelve fragments, the last one short, up to the installation; the order to install comes twice.
+pub fn full_download(seed: u64) -> Vec<u8> {
+    let package = package(seed, 11 * 96 + 41);
+    let mut server = Server::new("V1.0", 96, &package, true);
+    let mut session = Session::new(seed);
+    session.offer(&mut server);
+    session.download(&mut server, 12);
+    session.report(&mut server);
+    session.exchange(&mut server);
+    session.exchange(&mut server);
+    assert_eq!(session.device.phase, 5, "the device installs");
+    assert_eq!(session.image[..package.len()], package);
+    session.capture.bytes
+}
+
+/// The two builds of the recut: same version, size and total, other bytes and so another check code.
+pub fn builds() -> (Vec<u8>, Vec<u8>) {
+    (package(3, 11 * 64 + 40), package(4, 11 * 64 + 40))
+}
+
+/// March: half of a build is stored when its recut is announced.
+pub fn recut(seed: u64) -> Vec<u8> {
+    let (first, second) = builds();
+    let mut session = Session::new(seed);
+    let mut server = Server::new("V1.0", 64, &first, true);
+    session.offer(&mut server);
+    session.download(&mut server, 6);
+    let mut server = Server::new("V1.0", 64, &second, true);
+    session.offer(&mut server);
+    assert_eq!(session.device.stored, 0, "the download starts afresh");
+    session.download(&mut server, 12);
+    assert_eq!(session.device.phase, 2, "the recut is loaded");
+    assert_eq!(session.image[..second.len()], second);
+    session.capture.bytes
+}
+
+/// A good start, then a record whose mark is wrong.
+pub fn damaged() -> Vec<u8> {
+    let messages = four_messages();
+    let mut capture = Writer { bytes: all_toward_device(&messages[..2]) };
+    capture.add([0x4C, 0x3D], &messages[2]);
+    capture.add_toward_device(&messages[3]);
+    capture.bytes
+}
+
+/// The third of four records ends too early.
+pub fn cut() -> Vec<u8> {
+    let messages = four_messages();
+    let mut capture = all_toward_device(&messages[..3]);
+    capture.truncate(capture.len() - 5);
+    capture
+}
