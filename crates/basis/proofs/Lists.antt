@@ -5,14 +5,14 @@ use native.Mathlib.Numerals.{add-one}
 use native.Mathlib.Decide.{decLe}
 use native.Mathlib.Omega.{arith}
 use mathlib.Core.Path.{_≡_, refl, sym, _∙_, ap, ap₂}
-use mathlib.Core.Bool.{Bool, true, false, _&&_, _||_, false≢true, true≢false}
+use mathlib.Core.Bool.{Bool, true, false, false≢true, true≢false}
 use mathlib.Core.List.{List, [], _∷_, _++_, append-assoc}
 use lib.Dec.{eqb}
 use lib.ListN.{length, take, drop, getD, set, length-append, length-take, length-drop, length-set, take-append-drop, drop-of-length-le, replicate, List·getD-eq-default}
-use lib.Seq.{drop-cons, take-at, drop-at, drop-append-add, drop-drop, take-all, take-append-le, length-take-le, getD-drop, getD-take, take-add, take-length, set-append-left}
+use lib.Seq.{drop-cons, take-at, drop-at, drop-append-add, drop-drop, take-all, length-take-le, getD-drop, take-length, set-append-left}
 use borrow.Author.Tests.{eqb-true, eq-eqb, ne-eqb}
 use Rattle.basis.specs.Choice.{oneOf}
-use Rattle.basis.specs.Bytes.{Bytes, wordAt, wordBytes, part, same, over, patched}
+use Rattle.basis.specs.Bytes.{Bytes, wordAt, part, same, over, patched}
 use Rattle.basis.proofs.Choosing.{and-left, and-right, and-both}
 
 -- ---- numbers

@@ -1,7 +1,7 @@
 // What the crates above share: the lesser of two numbers, bytes and WORDs at a place of a slice, and
 // the one way in which a buffer is written.
 ghost use mathlib.Core.Path.{_≡_};
-ghost use Prim.Native.Nat.{_+_, _≤_, min};
+ghost use Prim.Native.Nat.{_+_, _*_, _≤_, min};
 ghost use lib.ListN.{length, getD};
 ghost use Rattle.basis.specs.Bytes.{wordAt, patched};
 ghost use Rattle.basis.specs.Choice.{pick, oneOf};
@@ -25,6 +25,13 @@ pub fn least(a: usize, b: usize) -> usize
     ensures { λ r. ⌜ r ≡ min a b ⌝ }
 {
     if a < b { a } else { b }
+}
+
+// The product of two WORDs.
+pub fn product(a: u16, b: u16) -> usize
+    ensures { λ r. ⌜ r ≡ a * b ⌝ }
+{
+    a as usize * b as usize
 }
 
 // The byte at a place, 0 where there is none.

@@ -1,11 +1,11 @@
 -- Laws of the map of stored fragments: marking, clearing, counting, and the lowest missing index. Assumes nothing.
 use Prim.Native.Nat.{ℕ, zero, suc, _+_, _*_, _/_, _%_, _^_, _-_, _≤_, _<_, max}
-use native.Mathlib.Nat.{not-suc-le-zero, suc-inj, zero-div, div-self, div-eq-of-lt, div-one, pow-suc, mul-div-mul-right, eq-or-lt-of-le, suc-le-suc-iff, zero-add, suc-add, add-suc, add-zero}
+use native.Mathlib.Nat.{not-suc-le-zero, suc-inj, zero-div, div-self, div-eq-of-lt, div-one, pow-suc, mul-div-mul-right}
 use native.Mathlib.Numerals.{add-one}
 use native.Mathlib.Decide.{ℕ-discrete, decLe, decLt}
 use native.Mathlib.Omega.{arith}
-use mathlib.Core.Path.{_≡_, refl, sym, _∙_, ap, ap₂}
-use mathlib.Core.Bool.{Bool, true, false, false≢true, true≢false}
+use mathlib.Core.Path.{_≡_, refl, sym, _∙_, ap}
+use mathlib.Core.Bool.{true, false, true≢false}
 use mathlib.Core.List.{List}
 use lib.Dec.{eqb}
 use lib.Arith.{lt-of-le-ne}
@@ -13,7 +13,7 @@ use lib.Bits.{bitOr, or-shr, or-step}
 use lib.ListN.{length, drop, getD, set, replicate, length-set, length-append, length-drop, length-replicate, getD-replicate, List·getD-append}
 use lib.Seq.{getD-set-same, getD-set-other, set-out, drop-append-add, drop-drop}
 use borrow.Author.Fill.{fill-more}
-use borrow.Author.Tests.{eqb-true, eqb-false, eq-eqb, ne-eqb, ltb-true, ltb-false}
+use borrow.Author.Tests.{eq-eqb}
 use Rattle.basis.specs.Choice.{pick}
 use Rattle.basis.specs.Bytes.{over}
 use Rattle.basis.proofs.Choosing.{by-cases, pick-yes, pick-no, pick-of}

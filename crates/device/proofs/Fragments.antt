@@ -1,44 +1,17 @@
 -- The rule of a fragment (21), test by test. Assumes nothing.
-use Prim.Native.Nat.{ℕ, _<_}
-use native.Mathlib.Omega.{arith}
-use mathlib.Core.Path.{_≡_, refl, sym, _∙_}
-use mathlib.Core.Bool.{Bool, true, false}
+use Prim.Native.Nat.{ℕ}
+use mathlib.Core.Path.{_≡_, sym, _∙_}
 use mathlib.Core.List.{List}
-use lib.Dec.{eqb, leb}
+use lib.Dec.{leb}
 use lib.ListN.{length}
-use borrow.Author.Tests.{eq-eqb, ne-eqb, leb-false}
+use borrow.Author.Tests.{eq-eqb, ne-eqb}
 use Rattle.basis.specs.Choice.{pick}
 use Rattle.basis.proofs.Choosing.{pick-yes, pick-no}
 use Rattle.bitmap.specs.Bitmap.{marked}
-use Rattle.message.specs.declared.Fields.{Fields}
-use Rattle.device.specs.declared.Device.{Device}
-use Rattle.device.specs.Record.{idle, loading, inPhase}
-use Rattle.device.specs.Rules.{After, refuse, moved, store, fragmentLength, onFragment}
-
--- a number for the first of three tests that refuses, and what is chosen by the same tests
-abbrev pub firstOf : (late whole again : Bool) → ℕ
-firstOf late whole again = pick late 10 (pick whole (pick again 12 0) 11)
-
-chosen : {A : Type 0} (f : ℕ → A) (a : A) (late whole again : Bool) → (firstOf late whole again ≡ 0 → ⊥)
-    → pick late (f 10) (pick whole (pick again (f 12) a) (f 11)) ≡ f (firstOf late whole again)
-unfolding pick
-chosen f a true whole again h = refl
-chosen f a false true true h = refl
-chosen f a false true false h = absurd (h refl)
-chosen f a false false again h = refl
-
-all-passed : (late whole again : Bool) → firstOf late whole again ≡ 0 → (late ≡ false) × (whole ≡ true) × (again ≡ false)
-unfolding pick
-all-passed true whole again e = absurd (omega (arith, e))
-all-passed false true true e = absurd (omega (arith, e))
-all-passed false true false e = (refl, refl, refl)
-all-passed false false again e = absurd (omega (arith, e))
-
-pub within : (f : Fields) (index len : ℕ) (map : List ℕ) (n : ℕ) → n ≡ firstOf (leb (f .total) index) (fragmentLength f index len) (marked map index) → n ≡ 0
-    → (index < f .total) × (fragmentLength f index len ≡ true)
-within f index len map n number e =
-    let (late, whole, _) = all-passed _ _ _ (sym number ∙ e) in
-    (leb-false (f .total) index late, whole)
+use Rattle.device_record.specs.declared.Device.{Device}
+use Rattle.device_record.specs.Record.{idle, loading, inPhase}
+use Rattle.device_decisions.proofs.Tested.{firstOf, chosen, all-passed}
+use Rattle.device.specs.Rules.{refuse, moved, store, fragmentLength, onFragment}
 
 module _ (d : Device) (image map reply : List ℕ) (result index : ℕ) (content : List ℕ) where
   pub not-loading : (d .phase ≡ loading → ⊥) → onFragment d image map reply result index content ≡ refuse d image map reply 9

@@ -15,11 +15,11 @@ use Rattle.basis.proofs.Choosing.{pick-no}
 use Rattle.basis.proofs.Lists.{length-patched}
 use Rattle.message.specs.Limits.{sizeOk, totalOk}
 use Rattle.message.specs.declared.Fields.{Fields}
-use Rattle.device.specs.Record.{mapBytes}
+use Rattle.device_record.specs.Record.{mapBytes}
 use Rattle.bitmap.specs.Bitmap.{marked, mark, cleared, setBits}
 use Rattle.device.proofs.Images.{place-within, other-place}
 use Rattle.bitmap.proofs.Bitmaps.{length-mark, mark-other, length-cleared, cleared-none, all-marked}
-use Rattle.device.proofs.Maps.{mapBytes-cover}
+use Rattle.device_record.proofs.Maps.{mapBytes-cover}
 
 -- What a stored fragment is: P of the announcement, the image, the last fragment's length and the index. It depends on the bytes in the
 -- index's own place alone, and on the last length for the last index alone.

@@ -1,6 +1,4 @@
 pub mod Images
-pub mod Maps
-pub mod Ranges
 pub mod Holds
 pub mod Views
 pub mod Sound
@@ -9,9 +7,7 @@ pub mod Numbers
 pub mod Announced
 pub mod Executed
 pub mod Fragments
-pub mod Guarded
 pub mod Readings
-pub mod Records
 pub mod Replying
 pub mod Storing
 pub mod Wanted

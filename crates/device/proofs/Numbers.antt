@@ -10,8 +10,8 @@ use Rattle.basis.proofs.Choosing.{by-cases, refusal-among}
 use Rattle.message.specs.Messages.{DeviceMessage, query, announce, fragment, downloadReply, execute, resultReply, GatewayMessage}
 use Rattle.message.specs.Codec.{Table, Reading, found, refused, toDevice, toGateway, readOf, said}
 use Rattle.message.specs.Recognition.{recognition}
-use Rattle.device.specs.declared.Device.{Device}
-use Rattle.device.specs.Record.{loading}
+use Rattle.device_record.specs.declared.Device.{Device}
+use Rattle.device_record.specs.Record.{loading}
 use Rattle.bitmap.specs.Bitmap.{lowestMissing}
 use Rattle.device.specs.Rules as rules
 use Rattle.device.specs.Rules.{After, onQuery, onAnnounce, onFragment, onDownloadReply, onExecute, onResultReply, begin, store, handle, receiveOf, wanted, nextMessageOf, installFinishedOf}

@@ -1,6 +1,6 @@
 -- Readings as the handlers meet them: which a code leads to, and the exit for any but the one expected. Assumes nothing.
 use Prim.Native.Nat.{ℕ, _-_}
-use mathlib.Core.Path.{_≡_, refl, sym, _∙_, ap}
+use mathlib.Core.Path.{_≡_, refl, sym, _∙_}
 use mathlib.Core.Bool.{Bool, true, false, not}
 use mathlib.Core.List.{List, [], _∷_}
 use lib.Dec.{T, eqb}
@@ -15,7 +15,7 @@ use Rattle.message.specs.Messages.{deviceCode}
 use Rattle.message.specs.Codec.{toDevice, readOf}
 use Rattle.message.specs.Coded.{deviceMessage}
 use Rattle.message.proofs.RoundTrip.{device-round-trip}
-use Rattle.device.specs.declared.Device.{Device}
+use Rattle.device_record.specs.declared.Device.{Device}
 use Rattle.device.specs.declared.Answer.{Answer}
 use Rattle.device.specs.Rules.{refuse, handle, onQuery, onAnnounce, onFragment, onDownloadReply, onExecute, onResultReply}
 use Rattle.device.specs.Coded.{afterCall, Awaited}

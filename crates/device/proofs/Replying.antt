@@ -1,33 +1,32 @@
 -- Every reply of the device is one that 01's table allows, and fits the reply buffer: it is always said. Assumes nothing.
-use Prim.Native.Nat.{ℕ, _<_, _≤_}
+use Prim.Native.Nat.{ℕ, _≤_}
 use native.Mathlib.Omega.{arith}
-use mathlib.Core.Path.{_≡_, refl, sym, _∙_, ap}
-use mathlib.Core.Bool.{Bool, true, false, _||_}
+use mathlib.Core.Path.{_≡_, refl, _∙_, ap}
+use mathlib.Core.Bool.{true}
 use mathlib.Core.List.{List, [], _∷_}
-use lib.Dec.{eqb, ltb}
 use lib.ListN.{length}
 use types.Run.{OneOf, miss}
 use denote.Enum.Declared.{tagOf}
 use borrow.Author.Tests.{ltb-true, lt-ltb, eqb-true}
-use Rattle.basis.specs.Choice.{pick, oneOf}
+use Rattle.basis.specs.Choice.{oneOf}
 use Rattle.basis.proofs.Choosing.{by-cases, and-both, one-of-every}
 use Rattle.bitmap.specs.Bitmap.{lowestMissing}
 use Rattle.message.specs.Limits.{deviceRoom, isWord}
 use Rattle.message.specs.Version.{goodVersion}
-use Rattle.message.specs.Messages.{GatewayMessage, queryReply, announceReply, fragmentRequest, downloadReport, executeReply, resultReport, gatewayValid}
-use Rattle.message.specs.Codec.{Reading, found, refused, toGateway, Sent, writeOf, said}
+use Rattle.message.specs.Messages.{GatewayMessage, queryReply, announceReply, executeReply, gatewayValid}
+use Rattle.message.specs.Codec.{Reading, found, toGateway, Sent, writeOf, said}
 use Rattle.message.specs.Coded.{gatewayMessage}
 use Rattle.message.specs.declared.Fields.{Fields}
 use Rattle.message.specs.declared.ToGateway
 use Rattle.message.specs.declared.ToGateway.{ToGateway}
 use Rattle.message.proofs.ToGateway.{the-type}
 use Rattle.message.proofs.RoundTrip.{gateway-round-trip}
-use Rattle.device.specs.declared.Device.{Device}
+use Rattle.device_record.specs.declared.Device.{Device}
 use Rattle.device.specs.declared.Said.{Said}
-use Rattle.device.specs.Record.{loading, conditionOk, recordOk}
-use Rattle.device.specs.Rules.{After, replied, announceResult, executeResult, wanted}
+use Rattle.device_record.specs.Record.{loading, conditionOk, recordOk}
+use Rattle.device.specs.Rules.{replied, announceResult, executeResult, wanted}
 use Rattle.device.specs.Coded.{afterCall, afterAsk, Sayable}
-use Rattle.device.proofs.Records.{Kept, Ranged, record-kept}
+use Rattle.device_record.proofs.Records.{Kept, Ranged, record-kept}
 
 -- what the code's enum says: a refusal its number, a message itself
 module _ (version buffer : List ℕ) where

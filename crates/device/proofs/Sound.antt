@@ -18,13 +18,14 @@ use Rattle.message.specs.Version.{goodVersion}
 use Rattle.message.specs.Messages.{fragment, installCode, deviceValid}
 use Rattle.message.specs.Codec.{found}
 use Rattle.message.specs.declared.Fields.{Fields}
-use Rattle.device.specs.declared.Device.{Device}
-use Rattle.device.specs.Record.{idle, loading, loaded, acked, failed, installing, reporting, fresh, inPhase, begun, ended, downloadOk, recordOk, roomOk, mapBytes}
+use Rattle.device_record.specs.declared.Device.{Device}
+use Rattle.device_record.specs.Record.{idle, loading, loaded, acked, failed, installing, reporting, fresh, inPhase, begun, ended, downloadOk, recordOk, roomOk, mapBytes}
 use Rattle.bitmap.specs.Bitmap.{marked, mark, cleared, setBits}
 use Rattle.device.specs.Rules.{completion}
 use Rattle.bitmap.proofs.Bitmaps.{setBits-le, setBits-mark, setBits-cleared}
-use Rattle.device.proofs.Maps.{mapBytes-cover, byte-within}
-use Rattle.device.proofs.Ranges.{total-range, phase-holds, fragment-fits}
+use Rattle.device_record.proofs.Maps.{mapBytes-cover, byte-within}
+use Rattle.device_record.proofs.Ranges.{total-range, phase-holds}
+use Rattle.device_decisions.proofs.Tested.{fragment-fits}
 use Rattle.device.proofs.Holds.{Rule, Holds, lastAfter, holds-cleared, holds-stored, holds-under}
 use Rattle.device.proofs.Views
 

@@ -10,10 +10,10 @@ use Rattle.basis.specs.Bytes.{patched}
 use Rattle.message.specs.Messages.{fragment}
 use Rattle.message.specs.Codec.{found}
 use Rattle.message.specs.declared.Fields.{Fields}
-use Rattle.device.specs.declared.Device.{Device}
-use Rattle.device.specs.Record.{idle, loading, failed}
+use Rattle.device_record.specs.declared.Device.{Device}
+use Rattle.device_record.specs.Record.{idle, loading, failed}
 use Rattle.device.proofs.Images.{Stands, place-within, patched-stands, joined}
-use Rattle.device.proofs.Ranges.{fragment-fits}
+use Rattle.device_decisions.proofs.Tested.{fragment-fits}
 use Rattle.device.proofs.Holds.{Rule, Holds, holds-all}
 use Rattle.device.proofs.Views
 use Rattle.device.proofs.Sound.{Download, Sound, sound-under, sound-does}

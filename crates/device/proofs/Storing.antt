@@ -2,8 +2,8 @@
 use Prim.Native.Nat.{ℕ, _+_, _*_, _-_, _≤_, _<_}
 use native.Mathlib.Nat.{mul-comm, suc-mul}
 use native.Mathlib.Omega.{arith}
-use mathlib.Core.Path.{_≡_, refl, sym, _∙_, ap}
-use mathlib.Core.Bool.{Bool, true}
+use mathlib.Core.Path.{_≡_, ap}
+use mathlib.Core.Bool.{true}
 use mathlib.Core.List.{List}
 use lib.Dec.{eqb}
 use lib.ListN.{length}
@@ -13,14 +13,13 @@ use Rattle.basis.specs.Bytes.{patched}
 use Rattle.basis.proofs.Choosing.{by-cases, and-both}
 use Rattle.basis.proofs.Lists.{length-patched}
 use Rattle.bitmap.specs.Bitmap.{mark}
-use Rattle.device.specs.declared.Device.{Device}
-use Rattle.device.specs.declared.Answer.{Answer}
-use Rattle.device.specs.Record.{loading, acked, holding, recordOk, roomOk, mapBytes, grown}
+use Rattle.device_record.specs.declared.Device.{Device}
+use Rattle.device_record.specs.Record.{loading, acked, holding, recordOk, roomOk, mapBytes, grown}
 use Rattle.device.specs.Rules.{fragmentLength, completion, store}
 use Rattle.device.specs.Coded.{afterCall}
-use Rattle.device.proofs.Ranges.{fragment-fits}
+use Rattle.device_decisions.proofs.Tested.{fragment-fits}
 use Rattle.device.proofs.Images.{place-within}
-use Rattle.device.proofs.Records.{Ranged, record-kept, room-held}
+use Rattle.device_record.proofs.Records.{Ranged, record-kept, room-held}
 
 pub loading-holds : (phase : ℕ) → phase ≡ loading → holding phase ≡ true
 unfolding holding

@@ -6,9 +6,9 @@ use mathlib.Core.Path.{_≡_, refl, sym, _∙_, ap}
 use mathlib.Core.Bool.{Bool, true, false, _&&_, _||_, not, false≢true}
 use mathlib.Core.List.{List, [], _∷_}
 use mathlib.Core.Logic.{_⊎_, inl, inr}
-use lib.Dec.{eqb, leb, ltb}
+use lib.Dec.{eqb, leb}
 use lib.ListN.{length, take}
-use borrow.Author.Tests.{eqb-true, eqb-false, ne-eqb, leb-false, ltb-true, ltb-false, not-true, not-false}
+use borrow.Author.Tests.{eqb-true, eqb-false, ne-eqb, leb-false, ltb-true, not-true}
 use Rattle.basis.specs.Choice.{pick, refusal, oneOf}
 use Rattle.basis.specs.Bytes.{same, over, patched}
 use Rattle.basis.proofs.Choosing.{by-cases, pick-no, and-left, and-right, or-either, passed}
@@ -18,8 +18,9 @@ use Rattle.message.specs.Messages.{DeviceMessage, query, announce, fragment, do
 use Rattle.message.specs.Codec.{Reading, found, refused, toDevice, toGateway, sealed, frame, bytesOf, readOf, said}
 use Rattle.message.specs.declared.Fields.{Fields}
 use Rattle.message.proofs.Heard.{read}
-use Rattle.device.specs.declared.Device.{Device}
-use Rattle.device.specs.Record.{idle, loading, loaded, acked, failed, installing, reporting, holding, inPhase, begun, grown, ended, recordOk, roomOk, mapBytes}
+use Rattle.device_decisions.proofs.Accepted.{Accepted, accepted-facts}
+use Rattle.device_record.specs.declared.Device.{Device}
+use Rattle.device_record.specs.Record.{idle, loading, loaded, acked, failed, installing, reporting, holding, inPhase, begun, grown, ended, recordOk, roomOk, mapBytes}
 use Rattle.bitmap.specs.Bitmap.{marked, mark, cleared, lowestMissing}
 use Rattle.device.specs.Rules as rules
 use Rattle.device.specs.Rules.{After, announceResult, resumes, fragmentLength, completion, executeResult, refuse, moved, replied, begin, store, onQuery, onAnnounce, onFragment, onDownloadReply, onExecute, onResultReply, handle, receiveOf, wanted, nextMessageOf, installFinishedOf}
@@ -70,14 +71,6 @@ installOut d image map code =
 -- ---- the view
 
 module _ (d : Device) (image map : List ℕ) where
-  -- an announcement is answered 00
-  pub record Accepted (condition : ℕ) (f : Fields) : Type 0 where
-    pub phase : d .phase < installing
-    pub ready : condition ≡ 0
-    pub other-version : same (f .version) (d .running) ≡ false
-    pub image-room : f .size * f .total ≤ length image
-    pub map-room : mapBytes (f .total) ≤ length map
-
   -- an announcement is taken up afresh
   pub record Begins (condition : ℕ) (f : Fields) : Type 0 where
     pub valid : deviceValid (announce f) ≡ true
@@ -165,11 +158,6 @@ spoken-aired m reply =
 -- ---- the guards
 
 -- a choice that comes out 0 and whose first is not 0 is the second
-not-first : (t : Bool) (a b : ℕ) → (t ≡ true → a ≡ 0 → ⊥) → pick t a b ≡ 0 → (t ≡ false) × (b ≡ 0)
-unfolding pick
-not-first true a b h e = absurd (h refl e)
-not-first false a b h e = (refl, e)
-
 fragment-result : (result index : ℕ) (bytes : List ℕ) → deviceValid (fragment result index bytes) ≡ true → (result ≡ 0x80 → ⊥) → (result ≡ 0x81 → ⊥)
     → result ≡ 0x00
 unfolding deviceValid fragmentOk oneOf
@@ -219,26 +207,10 @@ in-phase phase d e =
 -- ---- one call
 
 module _ (d : Device) (image map : List ℕ) where
-  pub accepted-facts : (condition : ℕ) (f : Fields) → announceResult d condition f image map ≡ 0 → Accepted d image map condition f
-  unfolding announceResult
-  accepted-facts condition f r =
-      let (a, r₁) = not-first (leb installing (d .phase)) 0x01 _ (λ _ z. omega arith) r in
-      let (b, r₂) = not-first (not (eqb condition 0)) condition _ (λ t. eqb-false condition 0 (not-true _ t)) r₁ in
-      let (c, r₃) = not-first (same (f .version) (d .running)) 0x03 _ (λ _ z. omega arith) r₂ in
-      let (i, r₄) = not-first (ltb (length image) (f .size * f .total)) 0x05 _ (λ _ z. omega arith) r₃ in
-      let (m, _) = not-first (ltb (length map) (mapBytes (f .total))) 0x09 0x00 (λ _ z. omega arith) r₄ in
-      record {
-        phase = leb-false installing (d .phase) a;
-        ready = eqb-true condition 0 (not-false _ b);
-        other-version = c;
-        image-room = ltb-false (length image) (f .size * f .total) i;
-        map-room = ltb-false (length map) (mapBytes (f .total)) m;
-      }
-
   begins-facts : (condition : ℕ) (f : Fields) → deviceValid (announce f) ≡ true → announceResult d condition f image map ≡ 0 → resumes d f ≡ false
       → Begins d image map condition f
   begins-facts condition f v r e =
-      let a : Accepted d image map condition f = accepted-facts condition f r in
+      let a : Accepted d image map condition f = accepted-facts d image map condition f r in
       record {
         valid = v;
         result = r;
@@ -260,7 +232,7 @@ module _ (d : Device) (image map : List ℕ) where
         phase = and-left (holding (d .phase)) _ e;
         coded = eqb-false (f .code) 0 (not-true _ (and-left (not (eqb (f .code) 0)) _ rest));
         fields = same-fields f (d .fields) (and-right (not (eqb (f .code) 0)) _ rest);
-        other-version = accepted-facts condition f r .other-version;
+        other-version = accepted-facts d image map condition f r .other-version;
       }
 
   module _ (reply : List ℕ) (condition : ℕ) where

@@ -1,20 +1,20 @@
 -- What the device has to say, phase by phase. Assumes nothing.
 use Prim.Native.Nat.{ℕ}
 use native.Mathlib.Omega.{arith}
-use mathlib.Core.Path.{_≡_, refl, sym, _∙_}
+use mathlib.Core.Path.{_≡_, sym, _∙_}
 use mathlib.Core.List.{List}
 use lib.Dec.{eqb, ltb}
 use borrow.Author.Tests.{eq-eqb, ne-eqb}
 use Rattle.basis.specs.Choice.{pick}
 use Rattle.basis.proofs.Choosing.{pick-yes, pick-no, pick-of}
 use Rattle.bitmap.specs.Bitmap.{lowestMissing}
-use Rattle.message.specs.Messages.{downloadReport, resultReport}
-use Rattle.message.specs.Codec.{Reading, found, refused}
+use Rattle.message.specs.Messages.{downloadReport}
+use Rattle.message.specs.Codec.{found, refused}
 use Rattle.message.specs.Coded.{gatewayMessage}
 use Rattle.message.specs.declared.ToGateway
 use Rattle.message.specs.declared.ToGateway.{ToGateway}
-use Rattle.device.specs.declared.Device.{Device}
-use Rattle.device.specs.Record.{loading, loaded, failed, reporting}
+use Rattle.device_record.specs.declared.Device.{Device}
+use Rattle.device_record.specs.Record.{loading, loaded, failed, reporting}
 use Rattle.device.specs.Rules.{wanted}
 
 -- the version that the message of a phase carries

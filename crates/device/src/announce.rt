@@ -1,14 +1,13 @@
-// The announcement of a package (20): what it is answered with, and the download that it begins.
+// The announcement of a package (20).
 use crate::Answer;
-use crate::Device;
-use crate::record::begun;
-use crate::record::holding;
-use crate::record::map_bytes;
-use crate::record::product;
 use crate::replies::answered;
 use crate::replies::refusal;
 use crate::replies::refused;
-use basis::pick;
+use device_decisions::announce_result;
+use device_decisions::resumes;
+use device_record::Device;
+use device_record::begun;
+use device_record::map_bytes;
 use message::Fields;
 use message::ToDevice;
 use message::ToGateway;
@@ -19,44 +18,9 @@ ghost use Prim.Native.Nat.{ℕ, _≤_};
 ghost use lib.ListN.{length};
 ghost use Rattle.message.specs.Limits.{deviceRoom};
 ghost use Rattle.message.specs.Coded.{deviceMessage};
-ghost use Rattle.device.specs.Record.{conditionOk};
+ghost use Rattle.device_record.specs.Record.{conditionOk};
 ghost use Rattle.device.specs.Coded.{afterCall, Awaited};
-ghost use Rattle.device.specs.Rules.{announceResult, sameFields, resumes, handle};
-
-// The answer, tests in order.
-fn announce_result(device: Device, condition: u8, fields: Fields, image: &[u8], map: &[u8]) -> u8
-    ensures { λ r. ⌜ r ≡ announceResult device condition fields (now (image .entry)) (now (map .entry)) ⌝ }
-{
-    let version = fields.version;
-    let running = device.running;
-    let image_short = image.len() < product(fields.size, fields.total);
-    let map_short = map.len() < map_bytes(fields.total);
-    let room = pick(image_short, 0x05, pick(map_short, 0x09, 0x00));
-    let fresh = pick(message::same_version(version, running), 0x03, room);
-    pick(
-        Device::INSTALLING <= device.phase,
-        0x01,
-        pick(condition != 0, condition, fresh),
-    )
-}
-
-// The same package.
-fn same_fields(a: Fields, b: Fields) -> bool
-    ensures { λ r. ⌜ r ≡ sameFields a b ⌝ }
-{
-    let left = a.version;
-    let right = b.version;
-    message::same_version(left, right)
-        & ((a.size == b.size) & ((a.total == b.total) & (a.code == b.code)))
-}
-
-// The download that is held goes on.
-fn resumes(device: Device, fields: Fields) -> bool
-    ensures { λ r. ⌜ r ≡ resumes device fields ⌝ }
-{
-    let held = device.fields;
-    holding(device.phase) & (!(fields.code == 0) & same_fields(fields, held))
-}
+ghost use Rattle.device.specs.Rules.{handle};
 
 // 20: a package is announced. An answer other than 00 changes nothing.
 pub(crate) fn on_announce(

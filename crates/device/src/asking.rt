@@ -1,5 +1,5 @@
 // What the device has to say when it is asked.
-use crate::Device;
+use device_record::Device;
 use message::ToGateway;
 ghost use mathlib.Core.Path.{_≡_};
 ghost use mathlib.Core.Bool.{true};
@@ -7,7 +7,7 @@ ghost use lib.Dec.{eqb, ltb};
 ghost use Rattle.basis.specs.Choice.{pick};
 ghost use Rattle.bitmap.specs.Bitmap.{lowestMissing};
 ghost use Rattle.message.specs.Coded.{gatewayMessage};
-ghost use Rattle.device.specs.Record.{reporting};
+ghost use Rattle.device_record.specs.Record.{reporting};
 ghost use Rattle.device.specs.Rules.{wanted};
 
 // The version that the message of a phase carries: what runs in a report, else the target.

@@ -1,12 +1,12 @@
 // A reading is led to the handler of its message's code.
 use crate::Answer;
-use crate::Device;
 use crate::announce::on_announce;
 use crate::fragment::on_fragment;
 use crate::replies::on_download_reply;
 use crate::replies::on_execute;
 use crate::replies::on_query;
 use crate::replies::on_result_reply;
+use device_record::Device;
 use message::ToDevice;
 ghost use mathlib.Core.Path.{_≡_};
 ghost use mathlib.Core.Bool.{true};
@@ -15,7 +15,7 @@ ghost use lib.ListN.{length, drop, getD};
 ghost use Rattle.basis.specs.Bytes.{part};
 ghost use Rattle.message.specs.Limits.{deviceRoom};
 ghost use Rattle.message.specs.Coded.{deviceMessage};
-ghost use Rattle.device.specs.Record.{conditionOk, recordOk, roomOk};
+ghost use Rattle.device_record.specs.Record.{conditionOk, recordOk, roomOk};
 ghost use Rattle.device.specs.Rules.{handle};
 ghost use Rattle.device.specs.Coded.{afterCall, Awaited};
 

@@ -1,9 +1,10 @@
 // What a call answers, and the handlers of the messages that carry no package.
 use crate::Answer;
-use crate::Device;
 use crate::Said;
-use crate::record::in_phase;
 use basis::pick;
+use device_decisions::execute_result;
+use device_record::Device;
+use device_record::in_phase;
 use message::ToDevice;
 use message::ToGateway;
 ghost use mathlib.Core.Path.{_≡_};
@@ -15,8 +16,8 @@ ghost use Rattle.message.specs.Limits.{deviceRoom};
 ghost use Rattle.message.specs.Messages.{GatewayMessage};
 ghost use Rattle.message.specs.Codec.{found, toGateway, said};
 ghost use Rattle.message.specs.Coded.{deviceMessage, gatewayMessage};
-ghost use Rattle.device.specs.Rules.{refuse, moved, replied, executeResult, handle};
-ghost use Rattle.device.specs.Record.{recordOk};
+ghost use Rattle.device.specs.Rules.{refuse, moved, replied, handle};
+ghost use Rattle.device_record.specs.Record.{recordOk};
 ghost use Rattle.device.specs.Coded.{afterCall, afterAsk, Sayable, Awaited};
 
 // The number of a reading that is no message.
@@ -116,24 +117,6 @@ pub(crate) fn on_download_reply(device: Device, message: ToDevice) -> Answer
         return moved(in_phase(device, Device::IDLE));
     }
     refused(device, 9)
-}
-
-// What the order to install is answered with. A weak signal is no obstacle.
-fn execute_result(phase: u8, condition: u8) -> u8
-    ensures { λ r. ⌜ r ≡ executeResult phase condition ⌝ }
-{
-    let obstacles = [1u8, 4];
-    let ready = pick(
-        basis::one_of(condition, &obstacles),
-        condition,
-        pick(condition == 127, 0x01, 0x00),
-    );
-    let complete = (phase == Device::LOADED) | (phase == Device::ACKED);
-    pick(
-        phase == Device::INSTALLING,
-        0x00,
-        pick(complete, ready, 0x01),
-    )
 }
 
 // 23: the order to install.

@@ -5,8 +5,8 @@ use mathlib.Core.Path.{_≡_, sym, _∙_, ap, ap₂}
 use mathlib.Core.List.{List}
 use native.Mathlib.Omega.{arith}
 use lib.ListN.{length, drop, length-append}
-use Rattle.device.specs.declared.Made.{Made}
-use Rattle.device.specs.Record.{newOf}
+use Rattle.device_record.specs.declared.Made.{Made}
+use Rattle.device_record.specs.Record.{newOf}
 use borrow.Author.Tests.{lt-ltb, le-ltb}
 use Rattle.basis.specs.Bytes.{over}
 use Rattle.basis.proofs.Lists.{patched-front}

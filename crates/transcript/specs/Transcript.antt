@@ -6,8 +6,8 @@ use lib.Dec.{ltb}
 use lib.ListN.{length, take, replicate}
 use Rattle.basis.specs.Choice.{pick}
 use Rattle.basis.specs.Bytes.{over}
-use Rattle.device.specs.declared.Device.{Device}
-use Rattle.device.specs.Record.{newOf}
+use Rattle.device_record.specs.declared.Device.{Device}
+use Rattle.device_record.specs.Record.{newOf}
 use Rattle.device.specs.Rules.{After, receiveOf}
 use Rattle.capture.specs.declared.Step.{Step}
 use Rattle.capture.specs.declared.Step.the-variants.{Record, End, Fault}

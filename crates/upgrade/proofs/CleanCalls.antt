@@ -16,15 +16,15 @@ use Rattle.message.specs.Messages.{DeviceMessage, deviceValid, GatewayMessage, 
 use Rattle.message.specs.Codec.{Table, Reading, Sent, found, toDevice, toGateway, bytesOf, said}
 use Rattle.message.proofs.Frames.{length-frame}
 use Rattle.message.proofs.RoundTrip.{device-round-trip, gateway-round-trip}
-use Rattle.device.specs.Record.{conditionOk}
-use Rattle.device.specs.Record as device
+use Rattle.device_record.specs.Record.{conditionOk}
+use Rattle.device_record.specs.Record as device
 use Rattle.device.specs.Rules as device-rules
 use Rattle.device.proofs.Standing.{standing}
 use Rattle.device.proofs.Sound.{sound-record, sound-room}
 use Rattle.gateway.specs.declared.Gateway.{Gateway}
 use Rattle.gateway.specs.Record as gateway
 use Rattle.gateway.specs.Rules as gateway-rules
-use Rattle.upgrade.specs.Calls.{aired, DeviceEnd, given, asked, deviceAnswer, deviceNext, deviceSays, GatewayCall, gatewayNext, gatewaySays, World, next}
+use Rattle.upgrade.specs.Calls.{aired, DeviceEnd, DeviceCall, given, asked, deviceAnswer, deviceNext, deviceSays, GatewayCall, gatewayNext, gatewaySays, World, atDevice, atGateway, next}
 use Rattle.upgrade.proofs.Count.{any, Fine, call-fine}
 use Rattle.upgrade.proofs.CleanSetting.{Setting, gatewayIn, gateway-good}
 use Rattle.upgrade.specs.Clean.{arriveAtDevice, arriveAtGateway, answeredByDevice, answeredByGateway, gatewayAsked, deviceAsked, askedNumber}
@@ -49,7 +49,14 @@ aired-message t m buffer =
 zero-nine : _≡_ {A = ℕ} 0 9 → ⊥
 zero-nine e = omega arith
 
+-- what a message that is heard leads to, whichever buffer is lent
+abbrev pub deviceTakes : DeviceEnd → DeviceMessage → (reply : List ℕ) → device-rules.After
+deviceTakes e m reply = device-rules.handle (e .device) (e .image) (e .map) reply 0 (found m)
+
 module _ (s : Setting) where
+  abbrev pub gatewayTakes : (phase : ℕ) → GatewayMessage → (reply : List ℕ) → gateway-rules.After
+  gatewayTakes phase m reply = gateway-rules.handle (gatewayIn s phase) (s .content) reply (found m)
+
   abbrev pub asksDevice : World → World
   asksDevice = deviceAsked (s .content) (s .deviceReply) (s .gatewayReply)
 
@@ -61,108 +68,153 @@ module _ (s : Setting) where
     pub speaks : askedNumber (s .content) (s .deviceReply) (s .gatewayReply) w ≡ 9 → ⊥
     pub leads : At (asksDevice w) e g
 
-  -- the number with which an end of the device answers an ask
-  abbrev askedOf : DeviceEnd → ℕ
-  askedOf e = device-rules.nextMessageOf (e .device) (e .image) (e .map) (s .deviceReply) .number
+  -- ---- single calls
 
-  -- what a message that is heard leads to
-  abbrev pub deviceTakes : DeviceEnd → DeviceMessage → device-rules.After
-  deviceTakes e m = device-rules.handle (e .device) (e .image) (e .map) (s .deviceReply) 0 (found m)
+  module _ (w : World) where
+    -- what the run gives an end here, and where a call leads
+    abbrev givenDevice : DeviceMessage → DeviceCall
+    givenDevice m = given true true 0 (bytesOf toDevice m) (s .deviceReply w)
 
-  abbrev pub gatewayTakes : (phase : ℕ) → GatewayMessage → gateway-rules.After
-  gatewayTakes phase m = gateway-rules.handle (gatewayIn s phase) (s .content) (s .gatewayReply) (found m)
+    abbrev givenGateway : GatewayMessage → GatewayCall
+    givenGateway m = GatewayCall.given true true (bytesOf toGateway m) (s .gatewayReply w)
 
-  -- ---- the device's calls
+    abbrev afterDevice : DeviceCall → World
+    afterDevice c = next (s .content) w (atDevice c)
 
-  device-roomy : leb deviceRoom (length (s .deviceReply)) ≡ true
-  device-roomy = le-leb deviceRoom (length (s .deviceReply)) (s .device-room)
+    abbrev afterGateway : GatewayCall → World
+    afterGateway c = next (s .content) w (atGateway c)
 
-  module _ (e : DeviceEnd) (sound : Fine e) where
-    good : device.recordOk (e .device) ≡ true
-    good = sound-record (standing any) (e .device) (e .image) (e .map) sound
+    device-roomy : leb deviceRoom (length (s .deviceReply w)) ≡ true
+    device-roomy = le-leb deviceRoom (length (s .deviceReply w)) (s .device-room w)
 
-    fits : device.roomOk (e .device) (e .image) (e .map) ≡ true
-    fits = sound-room (standing any) (e .device) (e .image) (e .map) sound
+    gateway-roomy : leb gatewayRoom (length (s .gatewayReply w)) ≡ true
+    gateway-roomy = le-leb gatewayRoom (length (s .gatewayReply w)) (s .gateway-room w)
 
-    device-hears : (m : DeviceMessage) → deviceValid m ≡ true
-        → deviceAnswer e true true 0 (bytesOf toDevice m) (s .deviceReply) ≡ deviceTakes e m
-    unfolding device-rules.receiveOf refusal pick conditionOk oneOf
-    device-hears m v = rw (device-roomy, good, fits, device-round-trip .written-read m v)
+    -- the device's calls
+    module _ {e : DeviceEnd} {g : Gateway} (here : At w e g) where
+      good : device.recordOk (e .device) ≡ true
+      good = sound-record (standing any) (e .device) (e .image) (e .map) (here .sound)
 
-    pub device-says : (r : Reading GatewayMessage) → device-rules.wanted (e .device) (e .map) ≡ r → deviceSays e (asked (s .deviceReply))
-        ≡ (let s : Sent = said toGateway r (s .deviceReply) in aired (s .length) (s .buffer))
-    unfolding deviceSays device-rules.nextMessageOf refusal pick
-    device-says r q = rw (device-roomy, good, fits, q)
+      fits : device.roomOk (e .device) (e .image) (e .map) ≡ true
+      fits = sound-room (standing any) (e .device) (e .image) (e .map) (here .sound)
 
-    pub device-number : (r : Reading GatewayMessage) → device-rules.wanted (e .device) (e .map) ≡ r
-        → device-rules.nextMessageOf (e .device) (e .image) (e .map) (s .deviceReply) .number ≡ said toGateway r (s .deviceReply) .number
-    unfolding device-rules.nextMessageOf refusal pick
-    device-number r q = rw (device-roomy, good, fits, q)
+      -- it is asked
+      device-sends : (r : Reading GatewayMessage) → device-rules.wanted (e .device) (e .map) ≡ r
+          → device-rules.nextMessageOf (w .end .device) (w .end .image) (w .end .map) (s .deviceReply w) ≡ said toGateway r (s .deviceReply w)
+      unfolding device-rules.nextMessageOf refusal pick
+      device-sends r q =
+          ap (λ (x : DeviceEnd). device-rules.nextMessageOf (x .device) (x .image) (x .map) (s .deviceReply w)) (here .end-is)
+          ∙ rw (device-roomy, good, fits, q)
 
-  -- ---- the gateway's calls
+      device-says : (m : GatewayMessage) → device-rules.wanted (e .device) (e .map) ≡ found m
+          → deviceSays (w .end) (asked (s .deviceReply w)) ≡ bytesOf toGateway m ∷ []
+      unfolding deviceSays said
+      device-says m q = rw (device-sends (found m) q) (aired-message toGateway m (s .deviceReply w))
 
-  gateway-roomy : leb gatewayRoom (length (s .gatewayReply)) ≡ true
-  gateway-roomy = le-leb gatewayRoom (length (s .gatewayReply)) (s .gateway-room)
+      pub device-number : (r : Reading GatewayMessage) → device-rules.wanted (e .device) (e .map) ≡ r
+          → askedNumber (s .content) (s .deviceReply) (s .gatewayReply) w ≡ said toGateway r (s .deviceReply w) .number
+      device-number r q = ap (λ (sent : Sent). sent .number) (device-sends r q)
 
-  same-length : eqb (length (s .content)) (length (s .content)) ≡ true
-  same-length = eq-eqb (length (s .content)) (length (s .content)) refl
+      device-asked : At (afterDevice (asked (s .deviceReply w))) e g
+      unfolding next deviceNext
+      device-asked = record { end-is = here .end-is; gateway-is = here .gateway-is; sound = here .sound }
 
-  module _ (phase : ℕ) (known : leb phase gateway.ended ≡ true) where
-    gateway-hears : (m : GatewayMessage) → gatewayValid m ≡ true
-        → gateway-rules.receiveOf (gatewayIn s phase) (s .content) (s .gatewayReply) true true (bytesOf toGateway m) ≡ gatewayTakes phase m
-    unfolding gateway-rules.receiveOf refusal pick
-    gateway-hears m v = rw (gateway-roomy, gateway-good s phase known, same-length, gateway-round-trip .written-read m v)
+      -- it is given a message
+      module _ (m : DeviceMessage) (v : deviceValid m ≡ true) where
+        device-hears : deviceAnswer e true true 0 (bytesOf toDevice m) (s .deviceReply w) ≡ deviceTakes e m (s .deviceReply w)
+        unfolding device-rules.receiveOf refusal pick conditionOk oneOf
+        device-hears = rw (device-roomy, good, fits, device-round-trip .written-read m v)
 
-    gateway-says : (m : DeviceMessage) → gateway-rules.wanted (gatewayIn s phase) ≡ found m
-        → gatewaySays (s .content) (gatewayIn s phase) (GatewayCall.asked (s .gatewayReply)) ≡ bytesOf toDevice m ∷ []
-    unfolding gatewaySays gateway-rules.nextMessageOf refusal pick said
-    gateway-says m q = rw (gateway-roomy, gateway-good s phase known, same-length, q) (aired-message toDevice m (s .gatewayReply))
+        device-replies : {a : List (List ℕ)} → ((reply : List ℕ) → aired (deviceTakes e m reply .length) (deviceTakes e m reply .reply) ≡ a)
+            → deviceSays (w .end) (givenDevice m) ≡ a
+        unfolding deviceSays
+        device-replies r =
+            ap (λ (x : DeviceEnd). deviceSays x (givenDevice m)) (here .end-is) ∙ rw device-hears (r (s .deviceReply w))
+
+        device-given : {d : DeviceEnd} → ((reply : List ℕ) → left (deviceTakes e m reply) ≡ d) → At (afterDevice (givenDevice m)) d g
+        unfolding next deviceNext
+        device-given {d = d} t =
+            let then : deviceNext e (givenDevice m) ≡ d = ap left device-hears ∙ t (s .deviceReply w) in
+            record {
+              end-is = ap (λ (x : DeviceEnd). deviceNext x (givenDevice m)) (here .end-is) ∙ then;
+              gateway-is = here .gateway-is;
+              sound = subst Fine then (call-fine e (givenDevice m) (here .sound));
+            }
+
+    -- the gateway's calls
+    module _ {e : DeviceEnd} (phase : ℕ) (known : leb phase gateway.ended ≡ true) (here : At w e (gatewayIn s phase)) where
+      same-length : eqb (length (s .content)) (length (s .content)) ≡ true
+      same-length = eq-eqb (length (s .content)) (length (s .content)) refl
+
+      -- it is asked
+      gateway-says : (m : DeviceMessage) → gateway-rules.wanted (gatewayIn s phase) ≡ found m
+          → gatewaySays (s .content) (w .gateway) (GatewayCall.asked (s .gatewayReply w)) ≡ bytesOf toDevice m ∷ []
+      unfolding gatewaySays gateway-rules.nextMessageOf refusal pick said
+      gateway-says m q =
+          ap (λ (x : Gateway). gatewaySays (s .content) x (GatewayCall.asked (s .gatewayReply w))) (here .gateway-is)
+          ∙ rw (gateway-roomy, gateway-good s phase known, same-length, q) (aired-message toDevice m (s .gatewayReply w))
+
+      gateway-asked : At (afterGateway (GatewayCall.asked (s .gatewayReply w))) e (gatewayIn s phase)
+      unfolding next gatewayNext
+      gateway-asked = record { end-is = here .end-is; gateway-is = here .gateway-is; sound = here .sound }
+
+      -- it is given a message
+      module _ (m : GatewayMessage) (v : gatewayValid m ≡ true) where
+        gateway-hears : gateway-rules.receiveOf (w .gateway) (s .content) (s .gatewayReply w) true true (bytesOf toGateway m)
+            ≡ gatewayTakes phase m (s .gatewayReply w)
+        unfolding gateway-rules.receiveOf refusal pick
+        gateway-hears =
+            ap (λ (x : Gateway). gateway-rules.receiveOf x (s .content) (s .gatewayReply w) true true (bytesOf toGateway m)) (here .gateway-is)
+            ∙ rw (gateway-roomy, gateway-good s phase known, same-length, gateway-round-trip .written-read m v)
+
+        gateway-replies : {h : Gateway} (n : DeviceMessage)
+            → ((reply : List ℕ) → gatewayTakes phase m reply ≡ gateway-rules.replied (gatewayIn s phase) (s .content) reply h n)
+            → gatewaySays (s .content) (w .gateway) (givenGateway m) ≡ bytesOf toDevice n ∷ []
+        unfolding gatewaySays
+        gateway-replies n r = rw (gateway-hears, r (s .gatewayReply w)) (aired-message toDevice n (s .gatewayReply w))
+
+        gateway-given : {h : Gateway} → ((reply : List ℕ) → gatewayTakes phase m reply .gateway ≡ h) → At (afterGateway (givenGateway m)) e h
+        unfolding next gatewayNext
+        gateway-given t =
+            record {
+              end-is = here .end-is;
+              gateway-is = ap (λ (a : gateway-rules.After). a .gateway) gateway-hears ∙ t (s .gatewayReply w);
+              sound = here .sound;
+            }
 
   -- ---- exchanges
 
   module _ (w : World) (e : DeviceEnd) (phase : ℕ) (here : At w e (gatewayIn s phase)) (known : leb phase gateway.ended ≡ true) where
-    -- a message keeps the device sound
-    sound-left : (n : DeviceMessage) {a : device-rules.After} → deviceValid n ≡ true → deviceTakes e n ≡ a → Fine (left a)
-    unfolding deviceNext
-    sound-left n u t =
-        subst (λ (a : device-rules.After). Fine (left a)) (device-hears e (here .sound) n u ∙ t)
-        (call-fine e (given true true 0 (bytesOf toDevice n) (s .deviceReply)) (here .sound))
-
-    -- the device says m, the gateway replies n and is h, the device takes n
-    pub device-exchange : (m : GatewayMessage) (n : DeviceMessage) {h : Gateway} {a : device-rules.After}
+    -- the device says m, the gateway replies n and is h, the device takes n and is d
+    pub device-exchange : (m : GatewayMessage) (n : DeviceMessage) {h : Gateway} {d : DeviceEnd}
         → device-rules.wanted (e .device) (e .map) ≡ found m → gatewayValid m ≡ true
-        → gatewayTakes phase m ≡ gateway-rules.replied (gatewayIn s phase) (s .content) (s .gatewayReply) h n
+        → ((reply : List ℕ) → gatewayTakes phase m reply ≡ gateway-rules.replied (gatewayIn s phase) (s .content) reply h n)
         → deviceValid n ≡ true
-        → deviceTakes e n ≡ a
-        → Spoke w (left a) h
-    unfolding deviceAsked answeredByGateway arriveAtDevice next deviceNext gatewayNext gatewaySays said
+        → ((reply : List ℕ) → left (deviceTakes e n reply) ≡ d)
+        → Spoke w d h
+    unfolding deviceAsked answeredByGateway arriveAtDevice said
     device-exchange m n q v r u t =
-        let says : deviceSays e (asked (s .deviceReply)) ≡ bytesOf toGateway m ∷ [] =
-        device-says e (here .sound) (found m) q ∙ aired-message toGateway m (s .deviceReply) in
+        let w₁ : World = afterDevice w (asked (s .deviceReply w)) in
+        let w₂ : World = afterGateway w₁ (givenGateway w₁ m) in
+        let asked₁ : At w₁ e (gatewayIn s phase) = device-asked w here in
         record {
-          speaks = λ z. zero-nine (sym (device-number e (here .sound) (found m) q) ∙ ap askedOf (sym (here .end-is)) ∙ z);
+          speaks = λ z. zero-nine (sym (device-number w here (found m) q) ∙ z);
           leads =
-              rw (
-                here .end-is,
-                here .gateway-is,
-                says,
-                gateway-hears phase known m v,
-                r,
-                aired-message toDevice n (s .gatewayReply),
-                device-hears e (here .sound) n u,
-                t,
-              )
-              record { end-is = refl; gateway-is = ap (λ (b : gateway-rules.After). b .gateway) (gateway-hears phase known m v ∙ r); sound = sound-left n u t };
+              rw (device-says w here m q, gateway-replies w₁ phase known asked₁ m v n r)
+              (device-given w₂ (gateway-given w₁ phase known asked₁ m v (λ reply. ap (λ (a : gateway-rules.After). a .gateway) (r reply))) n u t);
         }
 
-    -- the gateway says n, the device replies m and is left as a has it, the gateway takes m and is h
-    pub gateway-exchange : (n : DeviceMessage) (m : GatewayMessage) {a : device-rules.After} {h : Gateway}
+    -- the gateway says n, the device replies m and is d, the gateway takes m and is h
+    pub gateway-exchange : (n : DeviceMessage) (m : GatewayMessage) {d : DeviceEnd} {h : Gateway}
         → gateway-rules.wanted (gatewayIn s phase) ≡ found n → deviceValid n ≡ true
-        → deviceTakes e n ≡ a
-        → aired (a .length) (a .reply) ≡ bytesOf toGateway m ∷ [] → gatewayValid m ≡ true
-        → gatewayTakes phase m ≡ gateway-rules.moved (gatewayIn s phase) (s .content) (s .gatewayReply) h
-        → At (asksGateway w) (left a) h
-    unfolding gatewayAsked answeredByDevice arriveAtGateway next deviceNext deviceSays gatewayNext
+        → ((reply : List ℕ) → left (deviceTakes e n reply) ≡ d)
+        → ((reply : List ℕ) → aired (deviceTakes e n reply .length) (deviceTakes e n reply .reply) ≡ bytesOf toGateway m ∷ [])
+        → gatewayValid m ≡ true
+        → ((reply : List ℕ) → gatewayTakes phase m reply .gateway ≡ h)
+        → At (asksGateway w) d h
+    unfolding gatewayAsked answeredByDevice arriveAtGateway
     gateway-exchange n m q u t r v z =
-        rw (here .end-is, here .gateway-is, gateway-says phase known n q, device-hears e (here .sound) n u, t, r)
-        record { end-is = refl; gateway-is = ap (λ (b : gateway-rules.After). b .gateway) (gateway-hears phase known m v ∙ z); sound = sound-left n u t }
+        let w₁ : World = afterGateway w (GatewayCall.asked (s .gatewayReply w)) in
+        let w₂ : World = afterDevice w₁ (givenDevice w₁ n) in
+        let asked₁ : At w₁ e (gatewayIn s phase) = gateway-asked w phase known here in
+        rw (gateway-says w phase known here n q, device-replies w₁ asked₁ n u r) (gateway-given w₂ phase known (device-given w₁ asked₁ n u t) m v z)

@@ -3,7 +3,7 @@ use Prim.Native.Nat.{ℕ, zero, suc, _+_, _-_}
 use native.Mathlib.Omega.{arith}
 use mathlib.Core.Path.{_≡_, refl, ap}
 use mathlib.Core.List.{List}
-use Rattle.device.specs.Record as device
+use Rattle.device_record.specs.Record as device
 use Rattle.gateway.specs.declared.Gateway.{Gateway}
 use Rattle.gateway.specs.Record as gateway
 use Rattle.upgrade.specs.Calls.{DeviceEnd, asked, World}
@@ -14,7 +14,7 @@ use Rattle.upgrade.proofs.CleanLoad.{Front, front-none, front-more}
 use Rattle.upgrade.proofs.CleanSteps.{announced, fetched-one, fetched-last, quiet, reported, executed, finished, succeeded}
 
 -- asking until there is nothing to send ends in one way at most
-pub one-silence : (content deviceReply gatewayReply : List ℕ) {w v u : World} → UntilSilent content deviceReply gatewayReply w v
+pub one-silence : (content : List ℕ) (deviceReply gatewayReply : World → List ℕ) {w v u : World} → UntilSilent content deviceReply gatewayReply w v
     → UntilSilent content deviceReply gatewayReply w u → v ≡ u
 one-silence content deviceReply gatewayReply (silent p) (silent q) = refl
 one-silence content deviceReply gatewayReply (silent p) (spoken q n) = absurd (q p)

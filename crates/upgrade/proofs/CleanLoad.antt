@@ -11,10 +11,10 @@ use lib.ListN.{length, take, drop, length-append}
 use lib.Seq.{take-at, take-add, take-all, length-take-le}
 use Rattle.basis.specs.Bytes.{patched}
 use Rattle.basis.proofs.Lists.{length-patched}
-use Rattle.device.specs.Record.{mapBytes}
+use Rattle.device_record.specs.Record.{mapBytes}
 use Rattle.bitmap.specs.Bitmap.{marked, mark, cleared, lowestMissing}
 use Rattle.bitmap.proofs.Bitmaps.{mark-same, mark-other, length-mark, cleared-none, length-cleared, lowest-missing, lowest-first}
-use Rattle.device.proofs.Maps.{mapBytes-cover, byte-within}
+use Rattle.device_record.proofs.Maps.{mapBytes-cover, byte-within}
 use Rattle.device.proofs.Images.{place-within}
 use Rattle.gateway.specs.Record.{totalOf, fragmentOf}
 use Rattle.gateway.proofs.Package.{total-covers, below-total, stretch-fits, stretch-some, length-fragment}

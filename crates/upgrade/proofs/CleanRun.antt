@@ -20,13 +20,14 @@ use Rattle.gateway.specs.Record as gateway
 use Rattle.gateway.proofs.Views.{Turns, stays, offers, serves, runs, fails, succeeds, received}
 use Rattle.gateway.proofs.Package.{Begun, starts}
 use Rattle.upgrade.specs.Fold.{after}
-use Rattle.upgrade.specs.Calls.{GatewayCall, gatewayNext}
+use Rattle.upgrade.specs.Calls.{GatewayCall, gatewayNext, World}
 use Rattle.upgrade.specs.Demand3.{Before, deviceThen, gatewayThen, start}
-use Rattle.upgrade.specs.Clean.{CleanStart, CleanRun}
+use Rattle.upgrade.specs.Clean.{CleanStart, Reached, CleanRun}
 use Rattle.upgrade.proofs.Count.{made-fine, run-fine}
 use Rattle.upgrade.proofs.CleanSetting.{Setting, gatewayIn}
 use Rattle.upgrade.proofs.CleanCalls.{At}
 use Rattle.upgrade.proofs.CleanCourse as of
+use Rattle.upgrade.proofs.CleanAllowed.{reached-start, gateway-asked, until-silent, at-end}
 
 -- ---- the gateway before the start
 
@@ -66,7 +67,7 @@ code-chosen checked content =
     or-true true = refl
     or-true false = refl
 
-module _ (b : Before) (deviceReply gatewayReply : List ℕ) (c : CleanStart b deviceReply gatewayReply) where
+module _ (b : Before) (deviceReply gatewayReply : World → List ℕ) (c : CleanStart b deviceReply gatewayReply) where
   begun : Begun (b .version) (b .size) (b .content) (pick (b .checked) (checkOf (b .content)) 0) (gateway.startOf (b .version) (b .size) (b .content) (b .checked))
   begun = starts (b .version) (b .size) (b .content) (b .checked) (c .ready .gateway-started)
 
@@ -113,6 +114,12 @@ clean-run b deviceReply gatewayReply c =
     let (v, until, _) = of.fetched s (start b) (at-start b deviceReply gatewayReply c) in (
       (v, until),
       λ u silence.
-          let e : _ = of.succeeds s (start b) (at-start b deviceReply gatewayReply c) u silence in
-          (of.runs s (start b) (at-start b deviceReply gatewayReply c) u silence, ap (λ (g : Gateway). g .phase) e, ap (λ (g : Gateway). g .ending) e),
+          let reached : Reached b u = until-silent b deviceReply gatewayReply silence (gateway-asked b deviceReply gatewayReply (start b) (reached-start b)) in
+          let e : _ = of.succeeds s (start b) (at-start b deviceReply gatewayReply c) u silence in (
+            reached,
+            of.runs s (start b) (at-start b deviceReply gatewayReply c) u silence,
+            at-end b deviceReply gatewayReply u reached,
+            ap (λ (g : Gateway). g .phase) e,
+            ap (λ (g : Gateway). g .ending) e,
+          ),
     )

@@ -12,26 +12,26 @@ use Rattle.basis.proofs.Choosing.{and-left, and-right, and-both}
 use Rattle.message.specs.Limits.{deviceRoom, gatewayRoom, sizeMin, sizeMax, sizeOk, totalOk, totalMax, isWord}
 use Rattle.message.specs.Version.{goodVersion}
 use Rattle.message.specs.declared.Fields.{Fields}
-use Rattle.device.specs.declared.Device.{Device}
-use Rattle.device.specs.Record as device
+use Rattle.device_record.specs.declared.Device.{Device}
+use Rattle.device_record.specs.Record as device
 use Rattle.device.specs.Rules as device-rules
 use Rattle.gateway.specs.declared.Gateway.{Gateway}
 use Rattle.gateway.specs.Record as gateway
 use Rattle.gateway.proofs.Package.{total-some as some-total, total-most}
-use Rattle.upgrade.specs.Calls.{DeviceEnd}
+use Rattle.upgrade.specs.Calls.{DeviceEnd, World}
 use Rattle.upgrade.proofs.Count.{Fine}
 
 -- what a clean run is given, and what is known of it
 pub record Setting : Type 0 where
   pub content : List ℕ
-  pub deviceReply : List ℕ
-  pub gatewayReply : List ℕ
+  pub deviceReply : World → List ℕ
+  pub gatewayReply : World → List ℕ
   pub version : List ℕ
   pub size : ℕ
   pub code : ℕ
   pub first : DeviceEnd
-  pub device-room : deviceRoom ≤ length deviceReply
-  pub gateway-room : gatewayRoom ≤ length gatewayReply
+  pub device-room : (w : World) → deviceRoom ≤ length (deviceReply w)
+  pub gateway-room : (w : World) → gatewayRoom ≤ length (gatewayReply w)
   pub version-good : goodVersion version ≡ true
   pub size-ok : sizeOk size ≡ true
   pub length-ok : gateway.lengthOk (length content) size ≡ true

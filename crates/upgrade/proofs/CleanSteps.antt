@@ -1,9 +1,9 @@
 -- The exchanges of a clean run, one after the other, on records written out. Assumes nothing.
 use Prim.Native.Nat.{ℕ, _+_, _*_, _≤_, _<_}
 use native.Mathlib.Omega.{arith}
-use mathlib.Core.Path.{_≡_, refl, subst}
+use mathlib.Core.Path.{_≡_, refl, _∙_, ap}
 use mathlib.Core.Bool.{Bool, true, false}
-use mathlib.Core.List.{List, []}
+use mathlib.Core.List.{List}
 use lib.ListN.{length}
 use borrow.Author.Tests.{le-leb, lt-leb, lt-ltb, le-ltb, eq-eqb, ne-eqb, eqb-false}
 use Rattle.basis.specs.Choice.{pick, refusal, oneOf}
@@ -14,8 +14,8 @@ use Rattle.message.specs.Limits.{sizeMax, isWord}
 use Rattle.message.specs.Messages.{deviceValid, announce, fragment, downloadReply, execute, resultReply, fragmentOk, gatewayValid, announceReply, fragmentRequest, downloadReport, executeReply, resultReport, installCode}
 use Rattle.message.specs.Codec.{found, refused, toGateway, said}
 use Rattle.message.specs.declared.Fields.{Fields}
-use Rattle.device.specs.declared.Device.{Device}
-use Rattle.device.specs.Record as device
+use Rattle.device_record.specs.declared.Device.{Device}
+use Rattle.device_record.specs.Record as device
 use Rattle.bitmap.specs.Bitmap.{mark, cleared}
 use Rattle.device.specs.Rules as device-rules
 use Rattle.device.proofs.Standing.{standing}
@@ -41,18 +41,18 @@ begins d image map reply f idle another h k =
 module _ (s : Setting) where
   -- ---- the announcement
 
-  taken-up : deviceTakes s (s .first) (announce (fields s))
-      ≡ device-rules.begin (s .first .device) (s .first .image) (s .first .map) (s .deviceReply) (fields s)
+  taken-up : (reply : List ℕ) → deviceTakes (s .first) (announce (fields s)) reply
+      ≡ device-rules.begin (s .first .device) (s .first .image) (s .first .map) reply (fields s)
   unfolding device-rules.handle
-  taken-up = begins (s .first .device) (s .first .image) (s .first .map) (s .deviceReply) (fields s) (s .idle) (s .another) (s .image-room) (s .map-room)
+  taken-up reply = begins (s .first .device) (s .first .image) (s .first .map) reply (fields s) (s .idle) (s .another) (s .image-room) (s .map-room)
 
   pub announced : (w : World) → At w (s .first) (gatewayIn s gateway.offer)
       → At (asksGateway s w) (loadingAt s 0 (s .first .image) (cleared (device.mapBytes (total s)) (s .first .map))) (gatewayIn s gateway.serve)
   unfolding device-rules.begin gateway-rules.wanted gateway-rules.handle gateway-rules.onAnnounceReply deviceValid gatewayValid oneOf pick
   announced w here =
       gateway-exchange s w (s .first) gateway.offer here refl (announce (fields s)) (announceReply 0x00)
-      refl (and-both (s .version-good) (and-both (s .size-ok) (and-both (total-ok s) (s .code-word)))) taken-up
-      (aired-message toGateway (announceReply 0x00) (s .deviceReply)) refl refl
+      refl (and-both (s .version-good) (and-both (s .size-ok) (and-both (total-ok s) (s .code-word)))) (λ reply. ap left (taken-up reply))
+      (λ reply. rw (taken-up reply) (aired-message toGateway (announceReply 0x00) reply)) refl (λ _. refl)
 
   -- ---- a fragment
 
@@ -66,17 +66,17 @@ module _ (s : Setting) where
     abbrev loading : DeviceEnd
     loading = loadingAt s k image map
 
-    abbrev storing : device-rules.After
-    storing = device-rules.store (loading .device) image map (s .deviceReply) k bytes
+    abbrev storing : (reply : List ℕ) → device-rules.After
+    storing reply = device-rules.store (loading .device) image map reply k bytes
 
     requests : device-rules.wanted (loading .device) map ≡ found (fragmentRequest (s .version) k)
     unfolding device-rules.wanted pick
     requests = rw (lowest (s .content) (s .size) (some s) k image map front more, lt-ltb k (total s) more)
 
-    served : gatewayTakes s gateway.serve (fragmentRequest (s .version) k)
-        ≡ gateway-rules.replied (gatewayIn s gateway.serve) (s .content) (s .gatewayReply) (gatewayIn s gateway.serve) (fragment 0x00 k bytes)
+    served : (reply : List ℕ) → gatewayTakes s gateway.serve (fragmentRequest (s .version) k) reply
+        ≡ gateway-rules.replied (gatewayIn s gateway.serve) (s .content) reply (gatewayIn s gateway.serve) (fragment 0x00 k bytes)
     unfolding gateway-rules.handle gateway-rules.onFragmentRequest gateway-rules.fragmentReply gateway-rules.serving pick
-    served = rw (same-refl (s .version), lt-ltb k (total s) more)
+    served reply = rw (same-refl (s .version), lt-ltb k (total s) more)
 
     ranged : 1 ≤ length bytes
     ranged = fragment-some (s .content) (s .size) (some s) k image map front more
@@ -87,9 +87,9 @@ module _ (s : Setting) where
         by-cases (λ (t : Bool). t ≡ true) (λ _. and-both (le-leb 1 (length bytes) ranged) (le-leb (length bytes) (s .size) (stretch-fits (s .content) (s .size) k)))
         (λ n. eq-eqb (length bytes) (s .size) (fragment-full (s .content) (s .size) (some s) k image map front more (omega (arith, eqb-false (k + 1) (total s) n))))
 
-    stored : deviceTakes s loading (fragment 0x00 k bytes) ≡ storing
+    stored : (reply : List ℕ) → deviceTakes loading (fragment 0x00 k bytes) reply ≡ storing reply
     unfolding device-rules.handle device-rules.onFragment pick
-    stored = rw (lt-leb (total s) k more, long, new (s .content) (s .size) (some s) k image map front more)
+    stored reply = rw (lt-leb (total s) k more, long, new (s .content) (s .size) (some s) k image map front more)
 
     fragment-valid : deviceValid (fragment 0x00 k bytes) ≡ true
     unfolding deviceValid fragmentOk isWord pick
@@ -98,26 +98,26 @@ module _ (s : Setting) where
         (and-both (le-leb 1 (length bytes) ranged) (le-leb (length bytes) sizeMax (omega (arith, stretch-fits (s .content) (s .size) k, size-most s))))
 
     module _ (w : World) (here : At w loading (gatewayIn s gateway.serve)) where
-      fetched : Spoke s w (left storing) (gatewayIn s gateway.serve)
+      fetched : {d : DeviceEnd} → ((reply : List ℕ) → left (storing reply) ≡ d) → Spoke s w d (gatewayIn s gateway.serve)
       unfolding gatewayValid isWord
-      fetched =
+      fetched t =
           device-exchange s w loading gateway.serve here refl (fragmentRequest (s .version) k) (fragment 0x00 k bytes) requests
-          (and-both (s .version-good) (lt-ltb k 65536 (omega (arith, total-fits s)))) served fragment-valid stored
+          (and-both (s .version-good) (lt-ltb k 65536 (omega (arith, total-fits s)))) served fragment-valid (λ reply. ap left (stored reply) ∙ t reply)
 
       -- one before the last, and the last
       pub fetched-one : k + 1 < total s → Spoke s w (loadingAt s (k + 1) filled (mark k map)) (gatewayIn s gateway.serve)
       unfolding device-rules.store device-rules.completion pick
-      fetched-one h = subst (λ (e : DeviceEnd). Spoke s w e (gatewayIn s gateway.serve)) after fetched
+      fetched-one h = fetched after
         where
-          after : left storing ≡ loadingAt s (k + 1) filled (mark k map)
-          after = rw (ne-eqb (k + 1) (total s) (λ e. omega arith))
+          after : (reply : List ℕ) → left (storing reply) ≡ loadingAt s (k + 1) filled (mark k map)
+          after reply = rw (ne-eqb (k + 1) (total s) (λ e. omega arith))
 
       pub fetched-last : k + 1 ≡ total s → Spoke s w (endIn s device.loaded (k + 1) (length bytes) filled (mark k map)) (gatewayIn s gateway.serve)
       unfolding device-rules.store device-rules.completion pick
-      fetched-last h = subst (λ (e : DeviceEnd). Spoke s w e (gatewayIn s gateway.serve)) after fetched
+      fetched-last h = fetched after
         where
-          after : left storing ≡ endIn s device.loaded (k + 1) (length bytes) filled (mark k map)
-          after = rw (eq-eqb (k + 1) (total s) h, complete (s .content) (s .size) (some s) k image map front more h, s .code-passes)
+          after : (reply : List ℕ) → left (storing reply) ≡ endIn s device.loaded (k + 1) (length bytes) filled (mark k map)
+          after reply = rw (eq-eqb (k + 1) (total s) h, complete (s .content) (s .size) (some s) k image map front more h, s .code-passes)
 
   -- ---- from the last fragment to the end
 
@@ -125,20 +125,20 @@ module _ (s : Setting) where
     pub quiet : At w (endIn s device.acked stored last image map) (gatewayIn s gateway.run)
         → askedNumber (s .content) (s .deviceReply) (s .gatewayReply) w ≡ 9
     unfolding device-rules.wanted said pick
-    quiet here = rw (here .end-is) (device-number s (endIn s device.acked stored last image map) (here .sound) (refused 9) refl)
+    quiet here = device-number s w here (refused 9) refl
 
     pub reported : At w (endIn s device.loaded stored last image map) (gatewayIn s gateway.serve)
         → Spoke s w (endIn s device.acked stored last image map) (gatewayIn s gateway.run)
     unfolding device-rules.wanted device-rules.handle device-rules.onDownloadReply gateway-rules.handle gateway-rules.onDownloadReport deviceValid gatewayValid oneOf pick
     reported here =
-        device-exchange s w (endIn s device.loaded stored last image map) gateway.serve here refl (downloadReport 0x00) (downloadReply 0x00) refl refl refl refl refl
+        device-exchange s w (endIn s device.loaded stored last image map) gateway.serve here refl (downloadReport 0x00) (downloadReply 0x00) refl refl (λ _. refl) refl (λ _. refl)
 
     pub executed : At w (endIn s device.acked stored last image map) (gatewayIn s gateway.run)
         → At (asksGateway s w) (endIn s device.installing stored last image map) (gatewayIn s gateway.run)
     unfolding gateway-rules.wanted gateway-rules.handle gateway-rules.onExecuteReply device-rules.handle device-rules.onExecute device-rules.executeResult deviceValid gatewayValid oneOf pick
     executed here =
-        gateway-exchange s w (endIn s device.acked stored last image map) gateway.run here refl execute (executeReply 0x00) refl refl refl
-        (aired-message toGateway (executeReply 0x00) (s .deviceReply)) refl refl
+        gateway-exchange s w (endIn s device.acked stored last image map) gateway.run here refl execute (executeReply 0x00) refl refl (λ _. refl)
+        (aired-message toGateway (executeReply 0x00)) refl (λ _. refl)
 
     pub finished : At w (endIn s device.installing stored last image map) (gatewayIn s gateway.run)
         → At (next (s .content) w (atDevice (installed 0x00))) (updatedIn s device.reporting stored last image map) (gatewayIn s gateway.run)
@@ -153,4 +153,4 @@ module _ (s : Setting) where
     unfolding device-rules.wanted device-rules.handle device-rules.onResultReply gateway-rules.handle gateway-rules.onResultReport deviceValid gatewayValid installCode oneOf pick
     succeeded here =
         device-exchange s w (updatedIn s device.reporting stored last image map) gateway.run here refl (resultReport 0x00 (s .version)) (resultReply 0x00)
-        refl (s .version-good) (rw (same-refl (s .version))) refl refl
+        refl (s .version-good) (λ _. rw (same-refl (s .version))) refl (λ _. refl)

@@ -1,23 +1,21 @@
--- The count: on any run from a fresh record with one map, in phases 1 to 6 the stored count is the number of set bits among the first
--- total, and no call is refused with 29 or 14. Assumes nothing.
-use Prim.Native.Nat.{ℕ, _≤_}
+-- The count: on any run from a fresh record with one map, and any image in each call, in phases 1 to 6 the stored count is the number of set
+-- bits among the first total, and no call is refused with 29; where the image too is one, none is refused with 14. Assumes nothing.
+use Prim.Native.Nat.{ℕ}
 use native.Mathlib.Omega.{arith}
 use mathlib.Core.Path.{_≡_}
-use mathlib.Core.Bool.{Bool, true}
 use mathlib.Core.List.{List, [], _∷_}
 use Rattle.basis.proofs.Choosing.{by-cases}
-use Rattle.device.specs.declared.Made.{Made}
-use Rattle.device.specs.Record.{loading, reporting, fresh, newOf, recordOk, roomOk}
-use Rattle.bitmap.specs.Bitmap.{setBits}
-use Rattle.device.specs.Rules as device
+use Rattle.device_record.specs.declared.Made.{Made}
+use Rattle.device_record.specs.Record.{newOf}
 use Rattle.device.proofs.Holds.{Rule}
 use Rattle.device.proofs.Views.{receive-does, install-does}
-use Rattle.device.proofs.Sound.{Sound, sound-fresh, sound-record, sound-room}
+use Rattle.device.proofs.Sound.{Sound, sound-fresh, sound-room}
 use Rattle.device.proofs.Standing.{standing, standing-does}
-use Rattle.device.proofs.Numbers.{Neither, receive-neither, ask-neither, install-neither}
+use Rattle.device.proofs.Numbers.{receive-neither, ask-neither, install-neither}
 use Rattle.upgrade.specs.Fold.{after}
-use Rattle.upgrade.specs.Counted.{Counted, Count}
-use Rattle.upgrade.specs.Calls.{DeviceEnd, DeviceCall, given, asked, installed, deviceAnswer, deviceNext}
+use Rattle.upgrade.specs.Counted.{Counted, Count, Roomy, Room, lentNext}
+use Rattle.upgrade.specs.Calls.{DeviceEnd, DeviceCall, given, asked, installed, deviceNext}
+use Rattle.upgrade.proofs.Lent.{Kept, kept-by, kept-record, kept-given, kept-installed, given-unmet, asked-unmet, installed-unmet}
 
 -- of the stored bytes nothing in particular is known
 pub any : ℕ → List ℕ → Type 0
@@ -45,20 +43,52 @@ pub run-fine : (calls : List DeviceCall) (e : DeviceEnd) → Fine e → Fine (af
 run-fine [] e s = s
 run-fine (c ∷ cs) e s = run-fine cs (deviceNext e c) (call-fine e c s)
 
-counted : (e : DeviceEnd) → Fine e → Counted e
-counted e s =
+-- ---- one map and one image
+
+roomy : (e : DeviceEnd) → Fine e → Roomy e
+roomy e s =
     let rule : Rule = standing any in
     record {
-      count = λ some known. s .download (λ z. omega arith) .counts;
-      record-holds = sound-record rule (e .device) (e .image) (e .map) s;
       room-holds = sound-room rule (e .device) (e .image) (e .map) s;
-      given-neither = λ supported pcp condition message reply.
-          receive-neither rule (e .device) (e .image) (e .map) s reply supported pcp condition message;
-      asked-neither = λ reply. ask-neither rule (e .device) (e .image) (e .map) s reply;
-      installed-neither = λ code. install-neither rule (e .device) (e .image) (e .map) s code;
+      given-not-14 = λ supported pcp condition message reply.
+          receive-neither rule (e .device) (e .image) (e .map) s reply supported pcp condition message .1;
+      asked-not-14 = λ reply. ask-neither rule (e .device) (e .image) (e .map) s reply .1;
+      installed-not-14 = λ code. install-neither rule (e .device) (e .image) (e .map) s code .1;
+    }
+
+pub room : Room
+room version image map made calls =
+    roomy (after deviceNext (record { device = newOf version .device; image = image; map = map }) calls)
+    (run-fine calls (record { device = newOf version .device; image = image; map = map }) (made-fine version image map made))
+
+-- ---- one map, any image in each call
+
+abbrev KeptIn : DeviceEnd → Type 0
+KeptIn e = Kept (e .device) (e .map)
+
+call-kept : (e : DeviceEnd) (c : List ℕ × DeviceCall) → KeptIn e → KeptIn (lentNext e c)
+unfolding deviceNext
+call-kept e (image, given supported pcp condition message reply) k =
+    kept-given (e .device) image (e .map) reply supported pcp condition message k
+call-kept e (image, asked reply) k = k
+call-kept e (image, installed code) k = kept-installed (e .device) (e .map) code k
+
+run-kept : (calls : List (List ℕ × DeviceCall)) (e : DeviceEnd) → KeptIn e → KeptIn (after lentNext e calls)
+run-kept [] e k = k
+run-kept (c ∷ cs) e k = run-kept cs (lentNext e c) (call-kept e c k)
+
+counted : (e : DeviceEnd) → KeptIn e → Counted e
+counted e k =
+    record {
+      count = λ some known. k .sound .download (λ z. omega arith) .counts;
+      record-holds = kept-record (e .device) (e .map) k;
+      given-not-29 = λ image supported pcp condition message reply.
+          given-unmet (e .device) image (e .map) reply supported pcp condition message (kept-record (e .device) (e .map) k);
+      asked-not-29 = λ image reply. asked-unmet (e .device) image (e .map) reply k;
+      installed-not-29 = λ code. installed-unmet (e .device) (e .map) code k;
     }
 
 pub count : Count
-count version image map made calls =
-    counted (after deviceNext (record { device = newOf version .device; image = image; map = map }) calls)
-    (run-fine calls (record { device = newOf version .device; image = image; map = map }) (made-fine version image map made))
+count version map made calls =
+    let e : DeviceEnd = record { device = newOf version .device; image = []; map = map } in
+    counted (after lentNext e calls) (run-kept calls e (kept-by (standing any) (e .device) [] map (made-fine version [] map made)))

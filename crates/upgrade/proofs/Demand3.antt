@@ -11,15 +11,15 @@ use Rattle.checksum.specs.Check.{checkOf}
 use Rattle.message.specs.declared.Fields.{Fields}
 use Rattle.message.specs.Messages.{execute, executeReply, gatewayData}
 use Rattle.message.specs.Codec.{found, toDevice, toGateway, sealed, frame, bytesOf}
-use Rattle.device.specs.declared.Device.{Device}
-use Rattle.device.specs.Record.{idle, loading, loaded, acked, failed}
+use Rattle.device_record.specs.declared.Device.{Device}
+use Rattle.device_record.specs.Record.{idle, loading, loaded, acked, failed}
 use Rattle.device.proofs.Views
 use Rattle.device.proofs.Views.{Input, hears, Out, spoken}
 use Rattle.device.proofs.Standing.{standing-under, package-stands}
 use Rattle.gateway.specs.declared.Gateway.{Gateway}
 use Rattle.gateway.specs.Record as gateway
 use Rattle.message.specs.Limits.{sizeOk}
-use Rattle.device.proofs.Ranges.{size-range}
+use Rattle.device_record.proofs.Ranges.{size-range}
 use Rattle.gateway.proofs.Package.{starts, total-covers, fragment-is}
 use Rattle.upgrade.specs.Fold.{after, Allowed}
 use Rattle.upgrade.specs.Calls.{DeviceEnd, DeviceCall, given, asked, installed, GatewayCall, gatewayNext, World, Call, atDevice, atGateway, next, May}

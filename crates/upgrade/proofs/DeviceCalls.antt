@@ -12,8 +12,8 @@ use Rattle.basis.proofs.Choosing.{by-cases, and-left, and-right}
 use Rattle.message.specs.declared.Fields.{Fields}
 use Rattle.message.specs.Messages.{announceReply}
 use Rattle.message.specs.Codec.{toDevice, readOf}
-use Rattle.device.specs.declared.Device.{Device}
-use Rattle.device.specs.Record.{idle, loading, loaded, acked, failed, installing, holding, inPhase, begun, ended, mapBytes}
+use Rattle.device_record.specs.declared.Device.{Device}
+use Rattle.device_record.specs.Record.{idle, loading, loaded, acked, failed, installing, holding, inPhase, begun, ended, mapBytes}
 use Rattle.bitmap.specs.Bitmap.{cleared}
 use Rattle.device.specs.Rules.{announceResult, completion}
 use Rattle.device.proofs.Views

@@ -11,8 +11,8 @@ use Rattle.basis.proofs.Lists.{same-eq}
 use Rattle.message.specs.declared.Fields.{Fields}
 use Rattle.message.specs.Messages.{DeviceMessage, announce, fragment, execute, GatewayMessage, announceReply, executeReply}
 use Rattle.message.specs.Codec.{found, toDevice, toGateway}
-use Rattle.device.specs.declared.Device.{Device}
-use Rattle.device.specs.Record.{failed, installing, reporting, holding}
+use Rattle.device_record.specs.declared.Device.{Device}
+use Rattle.device_record.specs.Record.{failed, installing, reporting, holding}
 use Rattle.device.proofs.Images.{drop-patched, place-within}
 use Rattle.device.proofs.Sound.{sound-begun}
 use Rattle.device.proofs.Standing.{standing, standing-does, standing-under}

@@ -17,6 +17,10 @@ module _ {S C : Type 0} (next : S → C → S) where
     allowed-rest s [] ys a = a
     allowed-rest s (x ∷ xs) ys a = allowed-rest (next s x) xs ys (a .1)
 
+    pub allowed-last : (s : S) (xs : List C) (c : C) → Allowed next may s xs → may (after next s xs) c → Allowed next may s (xs ++ (c ∷ []))
+    allowed-last s [] c a m = (m, tt)
+    allowed-last s (x ∷ xs) c a m = (a .0, allowed-last (next s x) xs c (a .1) m)
+
     -- What holds at the start and is kept by every call that may be made holds after every allowed list. It may speak of the list.
     module _ (I : List C → S → Type 0) (s : S)
         (keeps : (xs : List C) (c : C) → I xs (after next s xs) → may (after next s xs) c → I (xs ++ (c ∷ [])) (next (after next s xs) c)) where

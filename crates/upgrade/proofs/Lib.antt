@@ -1,3 +1,4 @@
+pub mod Lent
 pub mod Count
 pub mod Folds
 pub mod Air
@@ -14,4 +15,5 @@ pub mod CleanCalls
 pub mod CleanLoad
 pub mod CleanSteps
 pub mod CleanCourse
+pub mod CleanAllowed
 pub mod CleanRun

@@ -15,8 +15,8 @@ use Rattle.message.specs.declared.Fields.{Fields}
 use Rattle.message.specs.Version.{goodVersion}
 use Rattle.message.specs.Messages.{DeviceMessage, query, announce, fragment, downloadReply, execute, resultReply}
 use Rattle.message.specs.Codec.{Reading, found, refused}
-use Rattle.device.specs.declared.Made.{Made}
-use Rattle.device.specs.Record.{idle, loaded, acked, fresh, newOf}
+use Rattle.device_record.specs.declared.Made.{Made}
+use Rattle.device_record.specs.Record.{idle, loaded, acked, fresh, newOf}
 use Rattle.device.specs.Rules.{announceResult, resumes}
 use Rattle.device.proofs.Views
 use Rattle.device.proofs.Views.{Input, hears, asks, installs, Out}

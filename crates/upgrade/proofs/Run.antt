@@ -9,8 +9,8 @@ use lib.ListN.{length, drop}
 use Rattle.message.specs.declared.Fields.{Fields}
 use Rattle.message.specs.Messages.{DeviceMessage, query, announce, fragment, downloadReply, execute, resultReply, GatewayMessage, queryReply, announceReply, fragmentRequest, downloadReport, executeReply, resultReport}
 use Rattle.message.specs.Codec.{toDevice, toGateway}
-use Rattle.device.specs.declared.Device.{Device}
-use Rattle.device.specs.Record.{installing, reporting, holding}
+use Rattle.device_record.specs.declared.Device.{Device}
+use Rattle.device_record.specs.Record.{installing, reporting, holding}
 use Rattle.device.proofs.Sound.{Sound}
 use Rattle.device.proofs.Standing.{standing}
 use Rattle.gateway.specs.declared.Gateway.{Gateway}

@@ -5,7 +5,7 @@ use mathlib.Core.List.{List, [], _∷_, _++_, List·Memᴰ}
 use lib.Dec.{eqb}
 use lib.ListN.{take}
 use Rattle.basis.specs.Choice.{pick}
-use Rattle.device.specs.declared.Device.{Device}
+use Rattle.device_record.specs.declared.Device.{Device}
 use Rattle.device.specs.Rules as device
 use Rattle.gateway.specs.declared.Gateway.{Gateway}
 use Rattle.gateway.specs.Rules as gateway

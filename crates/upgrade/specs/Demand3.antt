@@ -6,7 +6,7 @@ use mathlib.Core.List.{List, [], _∷_, _++_, List·Memᴰ}
 use lib.ListN.{length, take, drop}
 use Rattle.message.specs.Messages.{execute, executeReply}
 use Rattle.message.specs.Codec.{found, toDevice, toGateway, bytesOf, readOf}
-use Rattle.device.specs.Record.{newOf, holding}
+use Rattle.device_record.specs.Record.{newOf, holding}
 use Rattle.device.specs.Rules as device
 use Rattle.gateway.specs.declared.Gateway.{Gateway}
 use Rattle.gateway.specs.Record as gateway

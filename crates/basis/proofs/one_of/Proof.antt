@@ -1,14 +1,13 @@
-use Rattle.basis.proofs.Lists.{one-of-here, one-of-later, one-of-none}
-use Rattle.basis.specs.Choice.{oneOf}
+-- `basis::one_of` meets its contract. Assumes nothing.
 use borrow.Author.Needs.{needs}
-use lib.ListN.{length, drop}
+use Prim.Native.Nat.{_≤_, _-_}
 use native.Mathlib.Omega.{arith}
 use mathlib.Core.Path.{_≡_, refl, sym, _∙_}
-use Prim.Native.Nat.{_≤_, _-_}
+use lib.ListN.{length, drop}
+use Rattle.basis.specs.Choice.{oneOf}
+use Rattle.basis.proofs.Lists.{one-of-here, one-of-later, one-of-none}
 use Rattle.basis.proofs.one_of.Statement.{statement}
 use Rattle.basis.proofs.one_of.Tie as tie
-use Rattle.basis.proofs.one_of.Reads as reads
-use Rattle.basis.proofs.one_of.Lts as lts
 
 abbrev Inv-loop : tie.InvT-loop
 Inv-loop b list i₀ i = (i ≤ length list) × (oneOf b (drop i list) ≡ oneOf b list)
@@ -16,31 +15,24 @@ Inv-loop b list i₀ i = (i ≤ length list) × (oneOf b (drop i list) ≡ oneOf
 abbrev μ-loop : tie.MeasureT-loop
 μ-loop b list i₀ i = length list - i
 
--- src/lib.rt:48:5
 loop-holds : tie.Need-loop-holds Inv-loop μ-loop
 loop-holds c = (omega arith, refl)
 
--- src/lib.rt:49:12
 shared-slice-read-if1 : tie.Need-shared-slice-read-if1 Inv-loop μ-loop
 shared-slice-read-if1 c = search needs
 
--- src/lib.rt:50:13
 returns : tie.Need-returns Inv-loop μ-loop
 returns c = sym (one-of-here (c .before .before .before .before .args .b) (c .before .before .before .before .args .list .now) (c .before .before .before .loop .i) (c .before .before .loop-test .taken) (c .if1 .taken)) ∙ c .before .before .before .loop .inv .1
 
--- src/lib.rt:52:9
 add-i : tie.Need-add-i Inv-loop μ-loop
 add-i c = omega arith
 
--- src/lib.rt:48:5
 loop-less : tie.Need-loop-less Inv-loop μ-loop
 loop-less c = omega arith
 
--- src/lib.rt:48:5
 loop-again : tie.Need-loop-again Inv-loop μ-loop
 loop-again c = (omega arith, sym (one-of-later (c .before .before .before .before .args .b) (c .before .before .before .before .args .list .now) (c .before .before .before .loop .i) (c .before .before .loop-test .taken) (c .if1 .left)) ∙ c .before .before .before .loop .inv .1)
 
--- src/lib.rt:44:1
 returns-2 : tie.Need-returns-2 Inv-loop μ-loop
 returns-2 c = sym (one-of-none (c .before .before .args .b) (c .before .before .args .list .now) (c .before .loop .i) (c .loop-test .left)) ∙ c .before .loop .inv .1
 

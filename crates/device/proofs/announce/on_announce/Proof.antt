@@ -1,89 +1,67 @@
+-- `device::announce::on_announce` meets its contract. Assumes nothing.
+use borrow.Author.Needs.{needs}
+use mathlib.Core.Path.{sym, _∙_, refl}
+use Rattle.basis.specs.Choice.{oneOf}
+use Rattle.message.specs.Messages.{gatewayValid}
 use Rattle.device.proofs.Readings.{leaves, leads-announce}
 use Rattle.device.proofs.Replying.{announce-allowed}
 use Rattle.device.proofs.Announced.{afresh, unchanged}
-use Rattle.message.specs.Messages.{gatewayValid}
-use Rattle.basis.specs.Choice.{oneOf}
-use mathlib.Core.Path.{sym, _∙_, refl}
-use borrow.Author.Needs.{needs}
 use Rattle.device.proofs.announce.on_announce.Statement.{statement}
 use Rattle.device.proofs.announce.on_announce.Tie as tie
-use Rattle.device.proofs.announce.on_announce.Reads as reads
-use Rattle.device.proofs.announce.on_announce.Lts as lts
-use Rattle.bitmap.proofs.clear.Reads as clear-reads
-use Rattle.device.proofs.announce.announce_result.Reads as announce-result-reads
-use Rattle.device.proofs.announce.resumes.Reads as resumes-reads
-use Rattle.device.proofs.record.begun.Reads as begun-reads
-use Rattle.device.proofs.record.map_bytes.Reads as map-bytes-reads
-use Rattle.device.proofs.replies.answered.Reads as answered-reads
-use Rattle.device.proofs.replies.refusal.Reads as refusal-reads
-use Rattle.device.proofs.replies.refused.Reads as refused-reads
 
--- src/announce.rt:60:30
 enum-known-message : tie.Need-enum-known-message
 enum-known-message c = search needs
 
--- src/announce.rt:61:32
 refusal-requires : tie.Need-refusal-requires
 refusal-requires c κs = search needs
 
--- src/announce.rt:61:9
 refused-requires : tie.Need-refused-requires
 refused-requires c κs = search needs
 
--- src/announce.rt:61:9
 returns : tie.Need-returns
 returns c = λ b. leaves 20 _ _ _ _ tt (c .before .before .match .keys2) (c .before .before .before .before .before .before .pre .1 .1) (c .before .refusal .ensures) (c .refused .ensures) _ _ _ _ b _
 
--- src/announce.rt:69:9
 announce-result-requires : tie.Need-announce-result-requires
 announce-result-requires c κs = search needs
 
--- src/announce.rt:70:28
 resumes-requires : tie.Need-resumes-requires
 resumes-requires c κs = search needs
 
--- src/announce.rt:71:28
 map-bytes-requires : tie.Need-map-bytes-requires
 map-bytes-requires c κs = search needs
 
--- src/announce.rt:71:9
 clear-requires : tie.Need-clear-requires
 clear-requires c κs = search needs
 
--- src/announce.rt:73:13
 begun-requires : tie.Need-begun-requires
 begun-requires c κs = search needs
 
--- src/announce.rt:72:9
 answered-requires : tie.Need-answered-requires
 unfolding gatewayValid oneOf
 answered-requires c κs = (c .before .before .before .before .before .before .before .before .before .before .before .before .before .before .before .before .before .pre .0, refl)
 
--- src/announce.rt:72:9
 same-length : tie.Need-same-length
 same-length c = search needs
 
--- src/announce.rt:72:9
 same-length-2 : tie.Need-same-length-2
 same-length-2 c = search needs
 
--- src/announce.rt:72:9
 returns-2 : tie.Need-returns-2
-returns-2 c = λ b. afresh _ (c .before .before .before .before .before .before .before .before .before .before .before .before .before .before .before .before .before .before .before .before .args .image .now) (c .before .before .before .before .before .before .before .before .before .before .before .before .before .before .before .before .before .before .before .before .args .map .now) _ _ (c .before .before .before .before .before .before .before .before .before .before .before .before .before .before .before .before .before .before .before .before .args .reply .now) _ _ (c .before .before .before .before .before .before .before .before .before .before .before .before .announce-result .ensures) (c .before .before .before .before .before .before .before .before .before .before .before .resumes .ensures) _ _ _ _ (c .before .before .before .before .before .before .before .before .before .before .if1 .taken) (c .before .before .before .before .before .before .before .before .map-bytes .ensures) (c .before .before .before .before .before .before .before .clear .ensures) (c .before .before .before .before .begun .ensures) (c .before .before .answered .ensures _ _ _ refl) ∙ sym (leads-announce _ _ _ _ _ _ b _ _ _ _ (c .before .before .before .before .before .before .before .before .before .before .before .before .before .before .before .message .given .1))
+returns-2 c =
+    let s = c .before .before .before .before .before .before .before .before .before .before .before .before .before .before .before .before .before .before .before .before in
+    λ b. afresh _ (s .args .image .now) (s .args .map .now) _ _ (s .args .reply .now) _ _ (c .before .before .before .before .before .before .before .before .before .before .before .before .announce-result .ensures) (c .before .before .before .before .before .before .before .before .before .before .before .resumes .ensures) _ _ _ _ (c .before .before .before .before .before .before .before .before .before .before .if1 .taken) (c .before .before .before .before .before .before .before .before .map-bytes .ensures) (c .before .before .before .before .before .before .before .clear .ensures) (c .before .before .before .before .begun .ensures) (c .before .before .answered .ensures _ _ _ refl) ∙ sym (leads-announce _ _ _ _ _ _ b _ _ _ _ (c .before .before .before .before .before .before .before .before .before .before .before .before .before .before .before .message .given .1))
 
--- src/announce.rt:79:5
 answered-requires-2 : tie.Need-answered-requires-2
-answered-requires-2 c κs = (c .before .before .before .before .before .before .before .before .before .before .before .pre .0, rw (c .before .before .before .announce-result .ensures) (announce-allowed _ _ _ (c .before .before .before .before .before .before .before .before .before .before .before .args .image .now) (c .before .before .before .before .before .before .before .before .before .before .before .args .map .now) (c .before .before .before .before .before .before .before .before .before .before .before .pre .1 .0)))
+answered-requires-2 c κs =
+    let s = c .before .before .before .before .before .before .before .before .before .before .before in
+    (s .pre .0, rw (c .before .before .before .announce-result .ensures) (announce-allowed _ _ _ (s .args .image .now) (s .args .map .now) (s .pre .1 .0)))
 
--- src/announce.rt:54:1
 same-length-3 : tie.Need-same-length-3
 same-length-3 c = search needs
 
--- src/announce.rt:54:1
 same-length-4 : tie.Need-same-length-4
 same-length-4 c = search needs
 
--- src/announce.rt:54:1
 returns-3 : tie.Need-returns-3
 returns-3 c = λ b. c .before .before .answered2 .ensures _ _ _ refl ∙ unchanged _ _ _ _ _ _ _ _ (c .before .before .before .before .before .before .announce-result .ensures) (c .before .before .before .before .before .resumes .ensures) (c .before .before .before .before .if1 .left) ∙ sym (leads-announce _ _ _ _ _ _ b _ _ _ _ (c .before .before .before .before .before .before .before .before .before .message .given .1))
 

@@ -1,16 +1,13 @@
-use Rattle.basis.proofs.Choosing.{pick-yes, pick-no}
+-- `device::asking::spoken_version` meets its contract. Assumes nothing.
 use borrow.Author.Tests.{eq-eqb, ne-eqb}
 use mathlib.Core.Path.{sym}
+use Rattle.basis.proofs.Choosing.{pick-yes, pick-no}
 use Rattle.device.proofs.asking.spoken_version.Statement.{statement}
 use Rattle.device.proofs.asking.spoken_version.Tie as tie
-use Rattle.device.proofs.asking.spoken_version.Reads as reads
-use Rattle.device.proofs.asking.spoken_version.Lts as lts
 
--- src/asking.rt:19:9
 returns : tie.Need-returns
 returns c = sym (pick-yes _ _ _ (eq-eqb _ _ (c .before .if1 .taken)))
 
--- src/asking.rt:14:1
 returns-2 : tie.Need-returns-2
 returns-2 c = sym (pick-no _ _ _ (ne-eqb _ _ (c .before .before .if1 .left)))
 

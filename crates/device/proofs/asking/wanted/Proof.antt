@@ -1,32 +1,26 @@
-use Rattle.device.proofs.Wanted.{asks-loading, asks-loaded, asks-failed, asks-reporting, asks-nothing}
+-- `device::asking::wanted` meets its contract. Assumes nothing.
 use borrow.Author.Needs.{needs}
+use Rattle.device.proofs.Wanted.{asks-loading, asks-loaded, asks-failed, asks-reporting, asks-nothing}
 use Rattle.device.proofs.asking.wanted.Statement.{statement}
 use Rattle.device.proofs.asking.wanted.Tie as tie
-use Rattle.device.proofs.asking.wanted.Reads as reads
-use Rattle.device.proofs.asking.wanted.Lts as lts
-use Rattle.device.proofs.asking.wanted_fragment.Reads as wanted-fragment-reads
 
--- src/asking.rt:46:13
 wanted-fragment-requires : tie.Need-wanted-fragment-requires
 wanted-fragment-requires c κs = search needs
 
--- src/asking.rt:39:1
 returns : tie.Need-returns
-returns c = asks-loading (c .before .before .before .before .args .device) (c .before .before .before .before .args .map .now) _ (c .before .before .match .keys1) (c .wanted-fragment .ensures)
+returns c =
+    let s = c .before .before .before .before in
+    asks-loading (s .args .device) (s .args .map .now) _ (c .before .before .match .keys1) (c .wanted-fragment .ensures)
 
--- src/asking.rt:39:1
 returns-2 : tie.Need-returns-2
 returns-2 c = asks-loaded _ _ (c .match .keys2)
 
--- src/asking.rt:39:1
 returns-3 : tie.Need-returns-3
 returns-3 c = asks-failed _ _ (c .match .keys3)
 
--- src/asking.rt:39:1
 returns-4 : tie.Need-returns-4
 returns-4 c = asks-reporting _ _ (c .match .keys4)
 
--- src/asking.rt:39:1
 returns-5 : tie.Need-returns-5
 returns-5 c = asks-nothing _ _ (c .match .rest .0 .0 .0 .1) (c .match .rest .0 .0 .1) (c .match .rest .0 .1) (c .match .rest .1)
 

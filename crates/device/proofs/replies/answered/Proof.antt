@@ -1,20 +1,15 @@
-use Rattle.device.proofs.Replying.{answer-said}
+-- `device::replies::answered` meets its contract. Assumes nothing.
 use borrow.Author.Needs.{needs}
+use Rattle.device.proofs.Replying.{answer-said}
 use Rattle.device.proofs.replies.answered.Statement.{statement}
 use Rattle.device.proofs.replies.answered.Tie as tie
-use Rattle.device.proofs.replies.answered.Reads as reads
-use Rattle.device.proofs.replies.answered.Lts as lts
-use Rattle.device.proofs.replies.say.Reads as say-reads
 
--- src/replies.rt:73:9
 say-requires : tie.Need-say-requires
 say-requires c κs = search needs
 
--- src/replies.rt:68:1
 same-length : tie.Need-same-length
 same-length c = search needs
 
--- src/replies.rt:68:1
 returns : tie.Need-returns
 returns c = λ image map m e. answer-said _ _ image map _ _ _ m (c .before .before .say .ensures) e
 

@@ -1,70 +1,51 @@
-use Rattle.device.proofs.Readings.{leaves, leads-download}
-use Rattle.device.specs.Rules.{onDownloadReply}
-use Rattle.basis.proofs.Choosing.{pick-yes, pick-no}
+-- `device::replies::on_download_reply` meets its contract. Assumes nothing.
 use borrow.Author.Tests.{eq-eqb, ne-eqb}
-use mathlib.Core.Path.{_≡_, sym, _∙_}
 use borrow.Author.Needs.{needs}
+use mathlib.Core.Path.{sym, _∙_}
+use Rattle.basis.proofs.Choosing.{pick-yes, pick-no}
+use Rattle.device.specs.Rules.{onDownloadReply}
+use Rattle.device.proofs.Readings.{leaves, leads-download}
 use Rattle.device.proofs.replies.on_download_reply.Statement.{statement}
 use Rattle.device.proofs.replies.on_download_reply.Tie as tie
-use Rattle.device.proofs.replies.on_download_reply.Reads as reads
-use Rattle.device.proofs.replies.on_download_reply.Lts as lts
-use Rattle.basis.proofs.pick.Reads as pick-reads
-use Rattle.device.proofs.record.in_phase.Reads as in-phase-reads
-use Rattle.device.proofs.replies.moved.Reads as moved-reads
-use Rattle.device.proofs.replies.refusal.Reads as refusal-reads
-use Rattle.device.proofs.replies.refused.Reads as refused-reads
 
--- src/replies.rt:64:33
 enum-known-message : tie.Need-enum-known-message
 enum-known-message c = search needs
 
--- src/replies.rt:65:32
 refusal-requires : tie.Need-refusal-requires
 refusal-requires c κs = search needs
 
--- src/replies.rt:65:9
 refused-requires : tie.Need-refused-requires
 refused-requires c κs = search needs
 
--- src/replies.rt:65:9
 returns : tie.Need-returns
 returns c = leaves 22 _ _ _ _ tt (c .before .before .match .keys2) (c .before .before .before .pre) (c .before .refusal .ensures) (c .refused .ensures)
 
--- src/replies.rt:68:13
 pick-requires : tie.Need-pick-requires
 pick-requires c κs = search needs
 
--- src/replies.rt:69:22
 in-phase-requires : tie.Need-in-phase-requires
 in-phase-requires c κs = search needs
 
--- src/replies.rt:69:9
 moved-requires : tie.Need-moved-requires
 moved-requires c κs = search needs
 
--- src/replies.rt:69:9
 returns-2 : tie.Need-returns-2
 unfolding onDownloadReply
 returns-2 c = λ i m p v b k. c .moved .ensures i m p ∙ rw (c .before .in-phase .ensures, c .before .before .pick .ensures) (sym (leads-download _ i m p k v b _ _ (c .before .before .before .before .before .before .message .given .1) ∙ pick-yes _ _ _ (eq-eqb _ _ (c .before .before .before .if1 .taken))))
 
--- src/replies.rt:72:22
 in-phase-requires-2 : tie.Need-in-phase-requires-2
 in-phase-requires-2 c κs = search needs
 
--- src/replies.rt:72:9
 moved-requires-2 : tie.Need-moved-requires-2
 moved-requires-2 c κs = search needs
 
--- src/replies.rt:72:9
 returns-3 : tie.Need-returns-3
 unfolding onDownloadReply
 returns-3 c = λ i m p v b k. c .moved2 .ensures i m p ∙ rw (c .before .in-phase2 .ensures) (sym (leads-download _ i m p k v b _ _ (c .before .before .before .before .before .before .before .message .given .1) ∙ pick-no _ _ _ (ne-eqb _ _ (c .before .before .before .before .if1 .left)) ∙ pick-yes _ _ _ (eq-eqb _ _ (c .before .before .if2 .taken))))
 
--- src/replies.rt:74:5
 refused-requires-2 : tie.Need-refused-requires-2
 refused-requires-2 c κs = search needs
 
--- src/replies.rt:60:1
 returns-4 : tie.Need-returns-4
 unfolding onDownloadReply
 returns-4 c = λ i m p v b k. c .refused2 .ensures i m p ∙ sym (leads-download _ i m p k v b _ _ (c .before .before .before .before .before .before .message .given .1) ∙ pick-no _ _ _ (ne-eqb _ _ (c .before .before .before .if1 .left)) ∙ pick-no _ _ _ (ne-eqb _ _ (c .before .if2 .left)))

@@ -1,56 +1,40 @@
+-- `device::replies::on_execute` meets its contract. Assumes nothing.
+use borrow.Author.Needs.{needs}
+use mathlib.Core.Path.{sym, _∙_, refl}
+use Rattle.device.specs.Rules.{onExecute}
 use Rattle.device.proofs.Readings.{leaves, leads-execute}
 use Rattle.device.proofs.Replying.{execute-allowed}
 use Rattle.device.proofs.Executed.{phase-chosen}
-use Rattle.device.specs.Rules.{onExecute}
-use mathlib.Core.Path.{sym, _∙_, refl}
-use borrow.Author.Needs.{needs}
 use Rattle.device.proofs.replies.on_execute.Statement.{statement}
 use Rattle.device.proofs.replies.on_execute.Tie as tie
-use Rattle.device.proofs.replies.on_execute.Reads as reads
-use Rattle.device.proofs.replies.on_execute.Lts as lts
-use Rattle.basis.proofs.pick.Reads as pick-reads
-use Rattle.device.proofs.record.in_phase.Reads as in-phase-reads
-use Rattle.device.proofs.replies.answered.Reads as answered-reads
-use Rattle.device.proofs.replies.execute_result.Reads as execute-result-reads
-use Rattle.device.proofs.replies.refusal.Reads as refusal-reads
-use Rattle.device.proofs.replies.refused.Reads as refused-reads
 
 enum-told : tie.Need-enum-told
 enum-told c = search needs
 
--- src/replies.rt:138:32
 refusal-requires : tie.Need-refusal-requires
 refusal-requires c κs = search needs
 
--- src/replies.rt:138:9
 refused-requires : tie.Need-refused-requires
 refused-requires c κs = search needs
 
--- src/replies.rt:138:9
 returns : tie.Need-returns
 returns c = λ i m v b. leaves 23 _ _ _ _ tt (c .before .before .match .keys2) (c .before .before .before .before .pre .1) (c .before .refusal .ensures) (c .refused .ensures) i m _ v b _
 
--- src/replies.rt:140:9
 execute-result-requires : tie.Need-execute-result-requires
 execute-result-requires c κs = search needs
 
--- src/replies.rt:141:9
 pick-requires : tie.Need-pick-requires
 pick-requires c κs = search needs
 
--- src/replies.rt:143:14
 in-phase-requires : tie.Need-in-phase-requires
 in-phase-requires c κs = search needs
 
--- src/replies.rt:143:5
 answered-requires : tie.Need-answered-requires
 answered-requires c κs = (c .before .before .before .before .before .before .before .before .pre .0, rw (c .before .before .before .before .execute-result .ensures) (execute-allowed _ _))
 
--- src/replies.rt:132:1
 same-length : tie.Need-same-length
 same-length c = search needs
 
--- src/replies.rt:132:1
 returns-2 : tie.Need-returns-2
 unfolding onExecute
 returns-2 c = λ i m v b. c .before .before .answered .ensures i m _ refl ∙ rw (c .before .before .before .before .in-phase .ensures, c .before .before .before .before .before .before .pick .ensures, phase-chosen, c .before .before .before .before .before .before .before .execute-result .ensures) (sym (leads-execute _ i m _ _ v b _ (c .before .before .before .before .before .before .before .before .enum-told .given .1)))

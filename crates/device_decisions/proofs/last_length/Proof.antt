@@ -1,0 +1,25 @@
+-- `device_decisions::last_length` meets its contract. Assumes nothing.
+use borrow.Author.Tests.{eq-eqb, ne-eqb}
+use borrow.Author.Needs.{needs}
+use mathlib.Core.Path.{sym}
+use Rattle.basis.proofs.Choosing.{pick-yes, pick-no}
+use Rattle.device_decisions.proofs.last_length.Statement.{statement}
+use Rattle.device_decisions.proofs.last_length.Tie as tie
+
+add-if1 : tie.Need-add-if1
+add-if1 c = search needs
+
+cast-if1 : tie.Need-cast-if1
+cast-if1 c = search needs
+
+cast-result : tie.Need-cast-result
+cast-result c = search needs
+
+returns : tie.Need-returns
+returns c = sym (pick-yes _ _ _ (eq-eqb _ _ (c .if1 .taken)))
+
+returns-2 : tie.Need-returns-2
+returns-2 c = sym (pick-no _ _ _ (ne-eqb _ _ (c .if1 .left)))
+
+pub last-length-spec : {M : Type 1} → statement M
+last-length-spec = tie.close (tie.spec add-if1 cast-if1 cast-result returns returns-2)

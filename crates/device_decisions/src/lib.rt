@@ -1,0 +1,137 @@
+// What the device decides of the messages that it is given: each test of 01's "The head" by itself,
+// over the record and plain values. Nothing is written here.
+use basis::pick;
+use basis::product;
+use basis::unless;
+use device_record::Device;
+use device_record::holding;
+use device_record::map_bytes;
+use message::Fields;
+ghost use mathlib.Core.Path.{_≡_};
+ghost use Prim.Native.Nat.{_+_, _*_, _-_, _≤_, _<_};
+ghost use lib.Dec.{eqb, leb};
+ghost use lib.ListN.{length};
+ghost use Rattle.basis.specs.Choice.{pick};
+ghost use Rattle.bitmap.specs.Bitmap.{marked};
+ghost use Rattle.device_decisions.specs.Decisions.{announceResult, sameFields, resumes, fragmentLength, passes, completion, executeResult};
+
+// 20: what an announcement is answered with, tests in order.
+pub fn announce_result(
+    device: Device,
+    condition: u8,
+    fields: Fields,
+    image: &[u8],
+    map: &[u8],
+) -> u8
+    ensures { λ r. ⌜ r ≡ announceResult device condition fields (now (image .entry)) (now (map .entry)) ⌝ }
+{
+    let version = fields.version;
+    let running = device.running;
+    let image_short = image.len() < product(fields.size, fields.total);
+    let map_short = map.len() < map_bytes(fields.total);
+    let room = pick(image_short, 0x05, pick(map_short, 0x09, 0x00));
+    let fresh = pick(message::same_version(version, running), 0x03, room);
+    pick(
+        Device::INSTALLING <= device.phase,
+        0x01,
+        pick(condition != 0, condition, fresh),
+    )
+}
+
+// The same package.
+fn same_fields(a: Fields, b: Fields) -> bool
+    ensures { λ r. ⌜ r ≡ sameFields a b ⌝ }
+{
+    let left = a.version;
+    let right = b.version;
+    message::same_version(left, right)
+        & ((a.size == b.size) & ((a.total == b.total) & (a.code == b.code)))
+}
+
+// 20: the download that is held goes on.
+pub fn resumes(device: Device, fields: Fields) -> bool
+    ensures { λ r. ⌜ r ≡ resumes device fields ⌝ }
+{
+    let held = device.fields;
+    holding(device.phase) & (!(fields.code == 0) & same_fields(fields, held))
+}
+
+// As long as every fragment, or as a last one may be.
+fn fragment_length(fields: Fields, index: u16, len: usize) -> bool
+    ensures { λ r. ⌜ r ≡ fragmentLength fields index len ⌝ }
+{
+    let size = fields.size as usize;
+    if index as usize + 1 == fields.total as usize {
+        (1 <= len) & (len <= size)
+    } else {
+        len == size
+    }
+}
+
+// 21: the numbers 10, 11 and 12 in order, else 0.
+pub fn fragment_number(fields: Fields, index: u16, len: usize, map: &[u8]) -> u8
+    ensures { λ r. ⌜ r ≡ pick (leb (fields .total) index) 10 (pick (fragmentLength fields index len) (pick (marked (now (map .entry)) index) 12 0) 11) ⌝ }
+{
+    let again = pick(bitmap::marked(map, index as usize), 12, 0);
+    let long = unless(fragment_length(fields, index, len), 11, again);
+    pick(fields.total <= index, 10, long)
+}
+
+// The completed bytes pass: the package has no check code, or it is theirs.
+fn passes(code: u16, bytes: &[u8]) -> bool
+    ensures { λ r. ⌜ r ≡ passes code (now (bytes .entry)) ⌝ }
+{
+    if code == 0 {
+        return true;
+    }
+    code == checksum::check(bytes)
+}
+
+// 21: the phase once a fragment is stored. The package ends where its last fragment does.
+pub fn completion(stored: u16, last: u16, fields: Fields, image: &[u8]) -> u8
+    requires { ⌜ 1 ≤ fields .total ⌝ }
+    requires { ⌜ fields .size * (fields .total - 1) + last ≤ length (now image) ⌝ }
+    ensures { λ r. ⌜ r ≡ completion stored last fields (now (image .entry)) ⌝ }
+{
+    let total = fields.total;
+    if stored != total {
+        return Device::LOADING;
+    }
+    let end = product(fields.size, total - 1) + last as usize;
+    if passes(fields.code, &image[0..end]) {
+        Device::LOADED
+    } else {
+        Device::FAILED
+    }
+}
+
+// 21: the length of the last fragment, once one more is stored.
+pub fn last_length(device: Device, index: u16, len: usize) -> u16
+    requires { ⌜ len < 65536 ⌝ }
+    ensures { λ r. ⌜ r ≡ pick (eqb (index + 1) (device .fields .total)) len (device .last) ⌝ }
+{
+    let fields = device.fields;
+    if index as usize + 1 == fields.total as usize {
+        len as u16
+    } else {
+        device.last
+    }
+}
+
+// 23: what the order to install is answered with. A weak signal is no obstacle.
+pub fn execute_result(phase: u8, condition: u8) -> u8
+    ensures { λ r. ⌜ r ≡ executeResult phase condition ⌝ }
+{
+    let obstacles = [1u8, 4];
+    let ready = pick(
+        basis::one_of(condition, &obstacles),
+        condition,
+        pick(condition == 127, 0x01, 0x00),
+    );
+    let complete = (phase == Device::LOADED) | (phase == Device::ACKED);
+    pick(
+        phase == Device::INSTALLING,
+        0x00,
+        pick(complete, ready, 0x01),
+    )
+}

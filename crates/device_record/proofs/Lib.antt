@@ -1,0 +1,4 @@
+pub mod Guarded
+pub mod Maps
+pub mod Ranges
+pub mod Records

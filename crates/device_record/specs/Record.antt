@@ -1,0 +1,97 @@
+-- The device's record: 01, "The head" and number 29 of "Numbers returned". Assumes nothing.
+use Prim.Native.Nat.{ℕ, _+_, _*_, _/_}
+use mathlib.Core.Bool.{Bool, true, _&&_, not}
+use mathlib.Core.List.{List, [], _∷_}
+use lib.Dec.{eqb, leb, ltb}
+use lib.ListN.{length, replicate}
+use Rattle.basis.specs.Choice.{pick, oneOf}
+use Rattle.message.specs.Limits.{sizeOk, totalOk}
+use Rattle.message.specs.Version.{goodVersion}
+use Rattle.message.specs.Messages.{installCode}
+use Rattle.message.specs.declared.Fields.{Fields}
+use Rattle.device_record.specs.declared.Device.{Device}
+use Rattle.device_record.specs.declared.Made.{Made}
+
+abbrev pub idle : ℕ
+idle = 0
+
+abbrev pub loading : ℕ
+loading = 1
+
+abbrev pub loaded : ℕ
+loaded = 2
+
+abbrev pub acked : ℕ
+acked = 3
+
+abbrev pub failed : ℕ
+failed = 4
+
+abbrev pub installing : ℕ
+installing = 5
+
+abbrev pub reporting : ℕ
+reporting = 6
+
+-- phases 1 to 3: a download is held
+unfoldable pub holding : ℕ → Bool
+holding phase = leb loading phase && leb phase acked
+
+-- the conditions that a caller may state: ready, busy, weak signal, low power, internal
+unfoldable pub conditionOk : ℕ → Bool
+conditionOk condition = oneOf condition (0 ∷ 1 ∷ 2 ∷ 4 ∷ 127 ∷ [])
+
+-- ---- the ways in which a record is made; no rule makes one otherwise
+
+-- Idle, its target the running version too, all other fields 0
+abbrev pub fresh : List ℕ → Device
+fresh version =
+    record { phase = idle; running = version; fields = record { version = version; size = 0; total = 0; code = 0 }; stored = 0; last = 0; outcome = 0 }
+
+abbrev pub inPhase : ℕ → Device → Device
+inPhase phase d =
+    record { phase = phase; running = d .running; fields = d .fields; stored = d .stored; last = d .last; outcome = d .outcome }
+
+-- an announcement taken up afresh
+abbrev pub begun : Fields → Device → Device
+begun f d = record { phase = loading; running = d .running; fields = f; stored = 0; last = 0; outcome = d .outcome }
+
+-- one fragment more
+abbrev pub grown : (phase last : ℕ) → Device → Device
+grown phase last d =
+    record { phase = phase; running = d .running; fields = d .fields; stored = d .stored + 1; last = last; outcome = d .outcome }
+
+-- the installer's code kept, and what runs from now on
+abbrev pub ended : (code : ℕ) (running : List ℕ) → Device → Device
+ended code running d =
+    record { phase = reporting; running = running; fields = d .fields; stored = d .stored; last = d .last; outcome = code }
+
+-- a fresh record from a running version alone; a bad version text is 17, with a record that 29 refuses
+unfoldable pub newOf : List ℕ → Made
+newOf version =
+    pick (goodVersion version) (record { number = 0; device = fresh version }) (record { number = 17; device = fresh (replicate 16 0) })
+
+-- ---- 29 and 14
+
+-- in phases 1 to 6: size and total in range, count at most total and in Loading below it, last length at most size
+unfoldable pub downloadOk : Device → Bool
+downloadOk d =
+    (sizeOk (d .fields .size) && totalOk (d .fields .total))
+    && (leb (d .stored) (d .fields .total) && (not (eqb (d .phase) loading && eqb (d .stored) (d .fields .total)) && leb (d .last) (d .fields .size)))
+
+-- 29 where it fails: phase, kept code and version texts, and from phase 1 on the download
+unfoldable pub recordOk : Device → Bool
+recordOk d =
+    (leb (d .phase) reporting && installCode (d .outcome))
+    && ((goodVersion (d .running) && goodVersion (d .fields .version)) && pick (eqb (d .phase) idle) true (downloadOk d))
+
+-- the map bytes that a total needs: a bit for each fragment
+unfoldable pub mapBytes : ℕ → ℕ
+mapBytes total = (total + 7) / 8
+
+-- 14 where it fails: in phases 1 to 3, image or map shorter than the download needs
+unfoldable pub roomOk : Device → (image map : List ℕ) → Bool
+roomOk d image map =
+    pick (holding (d .phase))
+    (leb (d .fields .size * d .fields .total) (length image) && leb (mapBytes (d .fields .total)) (length map))
+    true
