@@ -1,5 +1,5 @@
 -- A record that the device's own calls left, with its buffers, is not refused with 29, nor with 14. Assumes nothing.
-use Prim.Native.Nat.{ℕ, _<_}
+use Prim.Native.Nat.{ℕ, _<_, _≤_}
 use native.Mathlib.Omega.{arith}
 use mathlib.Core.Path.{_≡_, sym, _∙_}
 use mathlib.Core.Bool.{Bool, true, true≢false}
@@ -27,10 +27,45 @@ abbrev Fine : {M : Type 0} → Reading M → Type 0
 Fine (found m) = Unit {0}
 Fine (refused n) = Neither n
 
-read-fine : (t : Table) (supported pcp : Bool) (bytes : List ℕ) → Fine (readOf t supported pcp bytes)
+-- ---- what a reading and its handler answer is at most 12
+
+abbrev Most : {M : Type 0} → Reading M → Type 0
+Most (found m) = Unit {0}
+Most (refused n) = n ≤ 12
+
+pub read-most : (t : Table) (supported pcp : Bool) (bytes : List ℕ) → Most (readOf t supported pcp bytes)
 unfolding readOf recognition
-read-fine t supported pcp bytes =
-    by-cases Fine (λ _. by-cases Fine (λ _. tt) (λ _. omega arith)) (λ _. refusal-among Neither _ (omega arith) (omega arith))
+read-most t supported pcp bytes =
+    by-cases Most (λ _. by-cases Most (λ _. tt) (λ _. omega arith)) (λ _. refusal-among (λ n. n ≤ 12) _ (omega arith) (omega arith))
+
+module _ (d : Device) (image map reply : List ℕ) where
+  L : After → Type 0
+  L a = a .number ≤ 12
+
+  pub handle-most : (condition : ℕ) (r : Reading DeviceMessage) → Most r → handle d image map reply condition r .number ≤ 12
+  unfolding L handle onQuery onAnnounce onFragment onDownloadReply onExecute onResultReply begin store
+  handle-most condition (refused n) h = h
+  handle-most condition (found query) h = omega arith
+  handle-most condition (found (announce f)) h = by-cases L (λ _. by-cases L (λ _. omega arith) (λ _. omega arith)) (λ _. omega arith)
+  handle-most condition (found (fragment result index bytes)) h =
+      by-cases L
+      (λ _. by-cases L (λ _. omega arith)
+      (λ _. by-cases L (λ _. omega arith)
+      (λ _. by-cases L (λ _. omega arith)
+      (λ _. by-cases L (λ _. by-cases L (λ _. omega arith) (λ _. omega arith)) (λ _. omega arith)))))
+      (λ _. omega arith)
+  handle-most condition (found (downloadReply result)) h =
+      by-cases L (λ _. omega arith) (λ _. by-cases L (λ _. omega arith) (λ _. omega arith))
+  handle-most condition (found execute) h = omega arith
+  handle-most condition (found (resultReply result)) h = by-cases L (λ _. omega arith) (λ _. omega arith)
+
+  -- a message is read and handled
+  pub heard-most : (supported pcp : Bool) (condition : ℕ) (message : List ℕ)
+      → handle d image map reply condition (readOf toDevice supported pcp message) .number ≤ 12
+  heard-most supported pcp condition message =
+      handle-most condition (readOf toDevice supported pcp message) (read-most toDevice supported pcp message)
+
+-- ---- neither 29 nor 14
 
 -- tests that hold do not give their number
 unless : {t : Bool} {a : ℕ} (b : ℕ) → t ≡ true → Neither a → Neither (pick t a b)
@@ -56,31 +91,11 @@ module _ (rule : Rule) (d : Device) (image map : List ℕ) (s : Sound rule d ima
       (λ _. by-cases Fine (λ _. tt) (λ _. by-cases Fine (λ _. tt) (λ _. by-cases Fine (λ _. tt) (λ _. omega arith))))
 
   module _ (reply : List ℕ) where
-    F : After → Type 0
-    F a = Neither (a .number)
-
-    handle-fine : (condition : ℕ) (r : Reading DeviceMessage) → Fine r → F (handle d image map reply condition r)
-    unfolding F handle onQuery onAnnounce onFragment onDownloadReply onExecute onResultReply begin store
-    handle-fine condition (refused n) h = h
-    handle-fine condition (found query) h = omega arith
-    handle-fine condition (found (announce f)) h = by-cases F (λ _. by-cases F (λ _. omega arith) (λ _. omega arith)) (λ _. omega arith)
-    handle-fine condition (found (fragment result index bytes)) h =
-        by-cases F
-        (λ _. by-cases F (λ _. omega arith)
-        (λ _. by-cases F (λ _. omega arith)
-        (λ _. by-cases F (λ _. omega arith)
-        (λ _. by-cases F (λ _. by-cases F (λ _. omega arith) (λ _. omega arith)) (λ _. omega arith)))))
-        (λ _. omega arith)
-    handle-fine condition (found (downloadReply result)) h =
-        by-cases F (λ _. omega arith) (λ _. by-cases F (λ _. omega arith) (λ _. omega arith))
-    handle-fine condition (found execute) h = omega arith
-    handle-fine condition (found (resultReply result)) h = by-cases F (λ _. omega arith) (λ _. omega arith)
-
     pub receive-neither : (supported pcp : Bool) (condition : ℕ) (message : List ℕ)
         → Neither (receiveOf d image map reply supported pcp condition message .number)
-    unfolding F receiveOf refusal
+    unfolding receiveOf refusal
     receive-neither supported pcp condition message =
-        by-cases F (λ _. handle-fine condition (readOf toDevice supported pcp message) (read-fine toDevice supported pcp message))
+        by-cases (λ (a : After). Neither (a .number)) (λ _. omega (arith, heard-most d image map reply supported pcp condition message))
         (λ _. by-cases Neither
         (λ _. by-cases Neither
         (λ _. unless 29 (sound-record rule d image map s) (unless 14 (sound-room rule d image map s) (omega arith)))

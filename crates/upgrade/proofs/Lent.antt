@@ -10,18 +10,17 @@ use lib.ListN.{length}
 use borrow.Author.Tests.{eqb-true, leb-true, lt-leb}
 use Rattle.basis.specs.Choice.{pick, refusal}
 use Rattle.basis.proofs.Choosing.{by-cases, pick-yes, pick-no, and-left, passes, refusal-among}
-use Rattle.message.specs.Messages.{DeviceMessage, query, announce, fragment, downloadReply, execute, resultReply, GatewayMessage}
-use Rattle.message.specs.Codec.{Reading, found, refused, toDevice, toGateway, readOf, said}
-use Rattle.message.specs.Recognition.{recognition}
+use Rattle.message.specs.Messages.{GatewayMessage}
+use Rattle.message.specs.Codec.{Reading, found, refused, toGateway, said}
 use Rattle.message.specs.declared.Fields.{Fields}
 use Rattle.device_record.specs.declared.Device.{Device}
 use Rattle.device_record.specs.Record.{idle, loading, installing, holding, inPhase, recordOk, roomOk}
-use Rattle.device.specs.Rules.{After, announceResult, resumes, begin, store, onQuery, onAnnounce, onFragment, onDownloadReply, onExecute, onResultReply, handle, receiveOf, nextMessageOf, installFinishedOf}
+use Rattle.device.specs.Rules.{After, announceResult, resumes, receiveOf, nextMessageOf, installFinishedOf}
 use Rattle.device.proofs.Holds.{Rule}
 use Rattle.device.proofs.Views
 use Rattle.device.proofs.Views.{receive-does, install-does}
 use Rattle.device.proofs.Sound.{Download, Sound, sound-record, sound-room, sound-under, sound-begun, sound-stored, sound-idle, sound-moved, sound-executed, sound-ended, sound-does}
-use Rattle.device.proofs.Numbers.{ask-neither, install-neither}
+use Rattle.device.proofs.Numbers.{heard-most, ask-neither, install-neither}
 use Rattle.device_record.proofs.Guarded.{asking-passed, receiving-passed}
 
 -- of the image's bytes nothing is asked
@@ -144,41 +143,16 @@ abbrev Unmet : {M : Type 0} → Reading M → Type 0
 Unmet (found m) = Unit {0}
 Unmet (refused n) = Not29 n
 
-read-unmet : (supported pcp : Bool) (bytes : List ℕ) → Unmet (readOf toDevice supported pcp bytes)
-unfolding readOf recognition
-read-unmet supported pcp bytes =
-    by-cases Unmet (λ _. by-cases Unmet (λ _. tt) (λ _. omega arith)) (λ _. refusal-among Not29 _ (omega arith) (omega arith))
-
 module _ (d : Device) (image map reply : List ℕ) where
-  F : After → Type 0
-  F a = Not29 (a .number)
-
-  handle-unmet : (condition : ℕ) (r : Reading DeviceMessage) → Unmet r → F (handle d image map reply condition r)
-  unfolding F handle onQuery onAnnounce onFragment onDownloadReply onExecute onResultReply begin store
-  handle-unmet condition (refused n) h = h
-  handle-unmet condition (found query) h = omega arith
-  handle-unmet condition (found (announce f)) h = by-cases F (λ _. by-cases F (λ _. omega arith) (λ _. omega arith)) (λ _. omega arith)
-  handle-unmet condition (found (fragment result index bytes)) h =
-      by-cases F
-      (λ _. by-cases F (λ _. omega arith)
-      (λ _. by-cases F (λ _. omega arith)
-      (λ _. by-cases F (λ _. omega arith)
-      (λ _. by-cases F (λ _. by-cases F (λ _. omega arith) (λ _. omega arith)) (λ _. omega arith)))))
-      (λ _. omega arith)
-  handle-unmet condition (found (downloadReply result)) h =
-      by-cases F (λ _. omega arith) (λ _. by-cases F (λ _. omega arith) (λ _. omega arith))
-  handle-unmet condition (found execute) h = omega arith
-  handle-unmet condition (found (resultReply result)) h = by-cases F (λ _. omega arith) (λ _. omega arith)
-
   -- the tests from 29 on
   tests-unmet : recordOk d ≡ true → Not29 (refusal ((29, recordOk d) ∷ (14, roomOk d image map) ∷ []))
   tests-unmet e = rw (passes 29 (recordOk d) ((14, roomOk d image map) ∷ []) e) (refusal-among Not29 _ (omega arith) (omega arith))
 
   pub given-unmet : (supported pcp : Bool) (condition : ℕ) (message : List ℕ) → recordOk d ≡ true
       → Not29 (receiveOf d image map reply supported pcp condition message .number)
-  unfolding F receiveOf refusal
+  unfolding receiveOf refusal
   given-unmet supported pcp condition message e =
-      by-cases F (λ _. handle-unmet condition (readOf toDevice supported pcp message) (read-unmet supported pcp message))
+      by-cases (λ (a : After). Not29 (a .number)) (λ _. omega (arith, heard-most d image map reply supported pcp condition message))
       (λ _. by-cases Not29 (λ _. by-cases Not29 (λ _. tests-unmet e) (λ _. omega arith)) (λ _. omega arith))
 
   said-unmet : (r : Reading GatewayMessage) → Unmet r → Not29 (said toGateway r reply .number)
