@@ -1,11 +1,14 @@
 // The library for hosts in C and Rust (include/pcp.h): functions on numbers and byte slices alone.
 // None asks its caller to have checked anything; a slice with no bytes needs a pointer all the same,
 // which the header's own functions see to.
+mod answers;
+mod device_calls;
+mod gateway_calls;
+
 ghost use mathlib.Core.Path.{_≡_};
-ghost use mathlib.Core.Bool.{not};
-ghost use lib.Dec.{eqb};
 ghost use Rattle.checksum.specs.Check.{checkOf, messageCheck};
 ghost use Rattle.message.specs.Recognition.{recognition};
+ghost use Rattle.host.specs.Exports.{fact};
 
 // The check of any bytes.
 #[no_mangle]
@@ -26,7 +29,7 @@ pub extern "C" fn pcp_message_check(message: &[u8]) -> u16
 // Recognition: 0, or 1 to 7. A fact is no where its byte is 0, and yes otherwise.
 #[no_mangle]
 pub extern "C" fn pcp_recognise(supported: u8, pcp: u8, message: &[u8]) -> u8
-    ensures { λ r. ⌜ r ≡ recognition (not (eqb supported 0)) (not (eqb pcp 0)) (now (message .entry)) ⌝ }
+    ensures { λ r. ⌜ r ≡ recognition (fact supported) (fact pcp) (now (message .entry)) ⌝ }
 {
     message::recognise(supported != 0, pcp != 0, message)
 }

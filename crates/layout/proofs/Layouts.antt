@@ -1,0 +1,74 @@
+-- Laws of the two layouts: how a record is put into a buffer part by part. Assumes nothing.
+use Prim.Native.Nat.{ℕ, _+_, _≤_, _<_}
+use native.Mathlib.Omega.{arith}
+use mathlib.Core.Path.{_≡_, refl, sym, _∙_, ap}
+use mathlib.Core.Bool.{Bool, true, false, _&&_}
+use mathlib.Core.List.{List, [], _∷_, _++_, append-assoc}
+use lib.Dec.{eqb, leb}
+use lib.ListN.{length, length-append}
+use borrow.Author.Tests.{eq-eqb, ne-eqb, le-leb, lt-leb}
+use Rattle.basis.specs.Bytes.{wordBytes, over, patched}
+use Rattle.basis.proofs.Choosing.{pick-yes, pick-no, and-both}
+use Rattle.basis.proofs.Lists.{patched-over, patched-front}
+use Rattle.device_record.specs.declared.Device.{Device}
+use Rattle.gateway.specs.declared.Gateway.{Gateway}
+use Rattle.layout.specs.Layout.{deviceBytes, longBytes, gatewayBytes, kept}
+
+-- ---- a record put into a buffer, part by part
+
+module _ (o : List ℕ) where
+  front : (xs o₁ : List ℕ) → o₁ ≡ patched 0 xs o → o₁ ≡ over xs o
+  front xs o₁ e = e ∙ patched-front xs o
+
+  -- one part more, behind those that were put
+  behind : (p xs o₁ o₂ : List ℕ) (at : ℕ) → o₁ ≡ over p o → length p ≡ at → o₂ ≡ patched at xs o₁ → o₂ ≡ over (p ++ xs) o
+  behind p xs o₁ o₂ at e l f = f ∙ ap (patched at xs) e ∙ patched-over p xs o at l
+
+  -- three parts, and four
+  three : (a b c o₁ o₂ o₃ : List ℕ) (j k : ℕ) → length a ≡ j → j + length b ≡ k
+      → o₁ ≡ patched 0 a o → o₂ ≡ patched j b o₁ → o₃ ≡ patched k c o₂ → o₃ ≡ over (a ++ (b ++ c)) o
+  three a b c o₁ o₂ o₃ j k h i e f g =
+      behind (a ++ b) c o₂ o₃ k (behind a b o₁ o₂ j (front a o₁ e) h f) (length-append a b ∙ omega arith) g
+      ∙ ap (λ (p : List ℕ). over p o) (append-assoc a b c)
+
+  four : (a b c d o₁ o₂ o₃ o₄ : List ℕ) (j k l : ℕ) → length a ≡ j → j + length b ≡ k → k + length c ≡ l
+      → o₁ ≡ patched 0 a o → o₂ ≡ patched j b o₁ → o₃ ≡ patched k c o₂ → o₄ ≡ patched l d o₃ → o₄ ≡ over (a ++ (b ++ (c ++ d))) o
+  four a b c d o₁ o₂ o₃ o₄ j k l h i m e f g q =
+      behind (a ++ (b ++ c)) d o₃ o₄ l (three a b c o₁ o₂ o₃ j k h i e f g) (simp length-append (omega arith)) q
+      ∙ ap (λ (p : List ℕ). over p o) (append-assoc a (b ++ c) d ∙ ap (λ (t : List ℕ). a ++ t) (append-assoc b c d))
+
+-- ---- the two records
+
+pub device-put : (d : Device) (o o₁ o₂ o₃ o₄ numbers : List ℕ) → length (d .running) ≡ 16 → length (d .fields .version) ≡ 16
+    → numbers
+    ≡ wordBytes (d .fields .size)
+    ++ (wordBytes (d .fields .total) ++ (wordBytes (d .fields .code) ++ (wordBytes (d .stored) ++ (wordBytes (d .last) ++ (d .outcome ∷ [])))))
+    → o₁ ≡ patched 0 (d .phase ∷ []) o → o₂ ≡ patched 1 (d .running) o₁ → o₃ ≡ patched 17 (d .fields .version) o₂ → o₄ ≡ patched 33 numbers o₃
+    → o₄ ≡ over (deviceBytes d) o
+unfolding deviceBytes
+device-put d o o₁ o₂ o₃ o₄ numbers r v n e f g h =
+    four o (d .phase ∷ []) (d .running) (d .fields .version) _ o₁ o₂ o₃ o₄ 1 17 33 refl (omega arith) (omega arith) e f g
+    (h ∙ ap (λ (xs : List ℕ). patched 33 xs o₃) n)
+
+pub gateway-put : (g : Gateway) (o o₁ o₂ o₃ numbers : List ℕ) → length (g .version) ≡ 16
+    → numbers ≡ wordBytes (g .size) ++ (longBytes (g .length) ++ wordBytes (g .code))
+    → o₁ ≡ patched 0 (g .phase ∷ g .ending ∷ []) o → o₂ ≡ patched 2 (g .version) o₁ → o₃ ≡ patched 18 numbers o₂
+    → o₃ ≡ over (gatewayBytes g) o
+unfolding gatewayBytes
+gateway-put g o o₁ o₂ o₃ numbers v n e f h =
+    three o (g .phase ∷ g .ending ∷ []) (g .version) _ o₁ o₂ o₃ 2 18 refl (omega arith) e f (h ∙ ap (λ (xs : List ℕ). patched 18 xs o₂) n)
+
+-- ---- the buffer after a call
+
+module _ (room : ℕ) (new buffer : List ℕ) where
+  pub kept-refused : (number : ℕ) → (number ≡ 0 → ⊥) → kept number room new buffer ≡ buffer
+  unfolding kept
+  kept-refused number h = pick-no _ _ _ (rw (ne-eqb number 0 h))
+
+  pub kept-short : (number : ℕ) → number ≡ 0 → length buffer < room → kept number room new buffer ≡ buffer
+  unfolding kept
+  kept-short number e h = pick-no _ _ _ (rw (eq-eqb number 0 e) (lt-leb room (length buffer) h))
+
+  pub kept-new : (number : ℕ) → number ≡ 0 → room ≤ length buffer → kept number room new buffer ≡ over new buffer
+  unfolding kept
+  kept-new number e h = pick-yes _ _ _ (and-both (eq-eqb number 0 e) (le-leb room (length buffer) h))

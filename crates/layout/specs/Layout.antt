@@ -1,0 +1,64 @@
+-- The records as bytes in a buffer that a host lends: fixed layouts, every number high byte first. Assumes nothing.
+use Prim.Native.Nat.{ℕ, _+_, _*_, _/_, _%_}
+use mathlib.Core.Bool.{_&&_}
+use mathlib.Core.List.{List, [], _∷_, _++_}
+use lib.Dec.{eqb, leb}
+use lib.ListN.{length, getD}
+use Rattle.basis.specs.Choice.{pick}
+use Rattle.basis.specs.Bytes.{wordAt, wordBytes, part, over}
+use Rattle.device_record.specs.declared.Device.{Device}
+use Rattle.gateway.specs.declared.Gateway.{Gateway}
+
+-- ---- the device's record: 44 bytes
+
+-- phase, running version, target version, size, total, check code, stored count, last length, kept code
+unfoldable pub deviceBytes : Device → List ℕ
+deviceBytes d =
+    d .phase ∷ []
+    ++ (d .running
+    ++ (d .fields .version
+    ++ (wordBytes (d .fields .size) ++ (wordBytes (d .fields .total) ++ (wordBytes (d .fields .code)
+    ++ (wordBytes (d .stored) ++ (wordBytes (d .last) ++ (d .outcome ∷ []))))))))
+
+abbrev pub deviceLength : ℕ
+deviceLength = 44
+
+-- the record that stands in the bytes; a byte that is not there counts as 0
+unfoldable pub deviceAt : List ℕ → Device
+deviceAt b =
+    record {
+      phase = getD b 0 0;
+      running = part b 1 16;
+      fields = record { version = part b 17 16; size = wordAt b 33; total = wordAt b 35; code = wordAt b 37 };
+      stored = wordAt b 39;
+      last = wordAt b 41;
+      outcome = getD b 43 0;
+    }
+
+-- ---- the gateway's record: 30 bytes
+
+-- a number of eight bytes, in four WORDs
+abbrev pub longAt : List ℕ → ℕ → ℕ
+longAt xs at = ((wordAt xs at * 65536 + wordAt xs (at + 2)) * 65536 + wordAt xs (at + 4)) * 65536 + wordAt xs (at + 6)
+
+abbrev pub longBytes : ℕ → List ℕ
+longBytes n =
+    wordBytes (n / 281474976710656) ++ (wordBytes (n / 4294967296 % 65536) ++ (wordBytes (n / 65536 % 65536) ++ wordBytes (n % 65536)))
+
+-- phase, ending number, version, size, package length, check code
+unfoldable pub gatewayBytes : Gateway → List ℕ
+gatewayBytes g =
+    g .phase ∷ g .ending ∷ [] ++ (g .version ++ (wordBytes (g .size) ++ (longBytes (g .length) ++ wordBytes (g .code))))
+
+abbrev pub gatewayLength : ℕ
+gatewayLength = 30
+
+unfoldable pub gatewayAt : List ℕ → Gateway
+gatewayAt b =
+    record { phase = getD b 0 0; ending = getD b 1 0; version = part b 2 16; size = wordAt b 18; length = longAt b 20; code = wordAt b 28 }
+
+-- ---- after a call
+
+-- the buffer after a call that answered with a number: the new record at its front where that is 0 and there is room, else as it was
+unfoldable pub kept : (number room : ℕ) (new buffer : List ℕ) → List ℕ
+kept number room new buffer = pick (eqb number 0 && leb room (length buffer)) (over new buffer) buffer
