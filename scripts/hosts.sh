@@ -17,6 +17,13 @@ need() {
     DEBIAN_FRONTEND=noninteractive apt-get install -y "${missing[@]}" >&2
 }
 
+# c_host SOURCE PROGRAM FLAG..: builds a C program that links the library.
+c_host() {
+    mkdir -p target/hosts
+    gcc -std=c99 -Wall -Wextra -Werror -O2 "${@:3}" -Iinclude "$1" target/staticlib/libhost.a \
+        -o "target/hosts/$2"
+}
+
 # rust_program SOURCE PROGRAM FLAG..: builds a Rust program.
 rust_program() {
     mkdir -p target/hosts

@@ -1,0 +1,550 @@
+//! `upgrade PACKAGE [SEED]` upgrades a simulated device from a package file, over a simulated link that loses, repeats,
+//! delays and reorders messages, and is down at times. The seed, a number, fixes what goes wrong.
+//!
+//! This is an example of both hosts of `pcp.rs`. Device and gateway know of each other only what the link brings. What
+//! a host has to do, and can be copied:
+//!
+//! - `receive`: lend the buffers, send the reply, and ask at once if the record has changed
+//! - `ask`: send what the end has to send; by a timer, for a message may have been lost
+//! - `DeviceHost::install`: the installer, begun once, and its end reported
+//! - `GatewayHost::wants`, `tick`, `next`: which messages the gateway leaves unanswered, and when a new gateway takes
+//!   over
+//!
+//! hosts/c/upgrade.c is the same program in C, and prints the same.
+
+mod pcp;
+
+use pcp::{code, condition, device_phase, ending, gateway_phase, install};
+use pcp::{Device, Facts, Gateway, Refusal, DEVICE_REPLY, GATEWAY_REPLY};
+use std::fmt::Arguments;
+use std::fs::File;
+use std::io::{self, Read, Write};
+use std::process::ExitCode;
+use std::{env, fmt};
+
+/// The version on the device, and that of the package.
+const RUNNING: &str = "V1.0";
+const TARGET: &str = "V2.0";
+
+const FRAGMENT_SIZE: u16 = 256;
+/// See `GatewayHost::next`.
+const OTHER_FRAGMENT_SIZE: u16 = 240;
+const MOST_PACKAGE: u64 = FRAGMENT_SIZE as u64 * 65_535;
+/// The device's flash for a package.
+const IMAGE_LENGTH: usize = 1 << 20;
+/// Enough for the smallest fragments.
+const MAP_LENGTH: usize = IMAGE_LENGTH / 32 / 8;
+/// A byte of erased flash.
+const ERASED: u8 = 0xFF;
+
+/// Time passes in ticks.
+type Ticks = u64;
+
+/// The longest delay of a message on the link.
+const LONGEST_DELAY: Ticks = 8;
+/// After this time a message and its reply have arrived.
+const QUIET: Ticks = 2 * LONGEST_DELAY + 1;
+/// Without an answer: send again.
+const RETRY: Ticks = 20;
+/// What the installer takes.
+const INSTALLATION: Ticks = 40;
+/// Without a message: start anew. Must be longer than an installation.
+const STANDSTILL: Ticks = 200;
+/// How long the link is down.
+const OUTAGE: Ticks = 300;
+/// Then the program gives up.
+const MOST_TICKS: Ticks = 2_000_000;
+
+/// How often things go wrong: once in so many times.
+const LOST: u64 = 6;
+const REPEATED: u64 = 10;
+const DOWN: u64 = 1_500;
+const BUSY: u64 = 8;
+
+/// Messages that the link can hold.
+const IN_FLIGHT: usize = 64;
+/// Gateways in a row that were asked for nothing; then the program gives up.
+const MOST_FRUITLESS: u32 = 10;
+
+/// Why the program does not go on.
+enum Failure {
+    Usage,
+    Read(String, io::Error),
+    Package(Refusal),
+    /// This program lends or states something wrong.
+    Call(&'static str, Refusal),
+}
+
+impl fmt::Display for Failure {
+    fn fmt(&self, f: &mut fmt::Formatter) -> fmt::Result {
+        match self {
+            Failure::Usage => write!(f, "usage: upgrade PACKAGE [SEED]"),
+            Failure::Read(path, error) => write!(f, "upgrade: cannot read {}: {}", path, error),
+            Failure::Package(refusal) => write!(f, "upgrade: package refused with {}", refusal),
+            Failure::Call(call, refusal) => write!(f, "upgrade: {} refused with {}", call, refusal),
+        }
+    }
+}
+
+/// One line of the account. That nobody reads it is no reason to stop.
+fn tell(line: Arguments) {
+    let _ = writeln!(io::stdout(), "{}", line);
+}
+
+/// Random numbers that a seed fixes (SplitMix64).
+struct Random(u64);
+
+impl Random {
+    fn draw(&mut self) -> u64 {
+        self.0 = self.0.wrapping_add(0x9E37_79B9_7F4A_7C15);
+        let mut z = self.0;
+        z = (z ^ (z >> 30)).wrapping_mul(0xBF58_476D_1CE4_E5B9);
+        z = (z ^ (z >> 27)).wrapping_mul(0x94D0_49BB_1331_11EB);
+        z ^ (z >> 31)
+    }
+
+    fn once_in(&mut self, times: u64) -> bool {
+        self.draw() % times == 0
+    }
+}
+
+#[derive(Clone, Copy, PartialEq, Eq)]
+enum End {
+    Device,
+    Gateway,
+}
+
+struct Message {
+    to: End,
+    /// The tick of its arrival.
+    due: Ticks,
+    bytes: Vec<u8>,
+}
+
+struct Link {
+    random: Random,
+    down_until: Ticks,
+    in_flight: Vec<Message>,
+    sent: u64,
+    lost: u64,
+    repeated: u64,
+}
+
+impl Link {
+    fn new(seed: u64) -> Link {
+        Link { random: Random(seed), down_until: 0, in_flight: Vec::new(), sent: 0, lost: 0, repeated: 0 }
+    }
+
+    fn tick(&mut self, now: Ticks) {
+        if now >= self.down_until && self.random.once_in(DOWN) {
+            self.down_until = now + OUTAGE;
+        }
+    }
+
+    /// An empty message is none: calls without a reply give one.
+    fn send(&mut self, now: Ticks, to: End, bytes: &[u8]) {
+        if bytes.is_empty() {
+            return;
+        }
+        self.sent += 1;
+        if now < self.down_until || self.random.once_in(LOST) {
+            self.lost += 1;
+            return;
+        }
+        self.launch(now, to, bytes);
+        if self.random.once_in(REPEATED) {
+            self.repeated += 1;
+            self.launch(now, to, bytes);
+        }
+    }
+
+    /// Each copy has a delay of its own, so that messages overtake each other. On a full link it is as good as lost.
+    fn launch(&mut self, now: Ticks, to: End, bytes: &[u8]) {
+        if self.in_flight.len() < IN_FLIGHT {
+            let due = now + 1 + self.random.draw() % LONGEST_DELAY;
+            self.in_flight.push(Message { to, due, bytes: bytes.to_vec() });
+        }
+    }
+
+    /// Takes one message that is due.
+    fn take(&mut self, now: Ticks) -> Option<Message> {
+        let place = self.in_flight.iter().position(|message| message.due <= now)?;
+        Some(self.in_flight.remove(place))
+    }
+}
+
+/// Bytes from the air can be refused with any of 1 to 12, and an end that is asked can have nothing to send; both are
+/// no concern. A higher number means that this program lends or states something wrong, and going on would not mend it.
+fn expected<T: Default>(call: &'static str, answer: Result<T, Refusal>) -> Result<T, Failure> {
+    match answer {
+        Err(refusal) if refusal.0 >= Refusal::UNKNOWN_CONDITION.0 => Err(Failure::Call(call, refusal)),
+        answer => Ok(answer.unwrap_or_default()),
+    }
+}
+
+/// A message's code; 0 if it is too short to have one.
+fn code_of(message: &[u8]) -> u8 {
+    message.get(3).copied().unwrap_or(0)
+}
+
+/// The first byte of a message's data: most answers are nothing else.
+fn result_of(message: &[u8]) -> Option<u8> {
+    message.get(8).copied()
+}
+
+struct DeviceHost {
+    device: Device,
+    image: Vec<u8>,
+    map: Vec<u8>,
+    random: Random,
+    /// When to ask for the next message.
+    ask_at: Ticks,
+    /// When the installer will be done, if it is at work.
+    installed_at: Option<Ticks>,
+    resumes: u64,
+    stored: u64,
+    repeated: u64,
+}
+
+impl DeviceHost {
+    /// The map is not cleared: an announcement does it.
+    fn new(seed: u64) -> Result<DeviceHost, Failure> {
+        let device =
+            Device::new(RUNNING.as_bytes()).map_err(|refusal| Failure::Call("Device::new", refusal))?;
+        Ok(DeviceHost {
+            device,
+            image: vec![ERASED; IMAGE_LENGTH],
+            map: vec![ERASED; MAP_LENGTH],
+            random: Random(seed),
+            ask_at: 0,
+            installed_at: None,
+            resumes: 0,
+            stored: 0,
+            repeated: 0,
+        })
+    }
+
+    /// A device would look at its battery, its signal and its own work.
+    fn condition(&mut self) -> u8 {
+        if self.random.once_in(BUSY) {
+            condition::BUSY
+        } else {
+            condition::READY
+        }
+    }
+
+    /// Only a changed record is a reason to ask at once. A host that asked after every arrival would double all that
+    /// follows a repeated message.
+    fn receive(&mut self, link: &mut Link, now: Ticks, message: &[u8]) -> Result<(), Failure> {
+        let before = self.device.clone();
+        let condition = self.condition();
+        let mut reply = [0; DEVICE_REPLY];
+        let (image, map) = (&mut self.image, &mut self.map);
+        let answer = self.device.receive(Facts::BOTH, condition, message, image, map, &mut reply);
+        self.count(&before, message, answer);
+        link.send(now, End::Gateway, expected("Device::receive", answer)?);
+        if self.device != before {
+            self.ask_at = now;
+        }
+        Ok(())
+    }
+
+    /// For the account. An offer that was accepted and changed nothing is a resume.
+    fn count(&mut self, before: &Device, message: &[u8], answer: Result<&[u8], Refusal>) {
+        let accepted = answer.ok().and_then(result_of) == Some(0x00);
+        self.stored += u64::from(self.device.stored() > before.stored());
+        self.repeated += u64::from(answer == Err(Refusal::ALREADY_STORED));
+        self.resumes += u64::from(code_of(message) == code::ANNOUNCE && accepted && self.device == *before);
+    }
+
+    /// Asking changes nothing, so it is done again until an answer has come.
+    fn ask(&mut self, link: &mut Link, now: Ticks) -> Result<(), Failure> {
+        let mut reply = [0; DEVICE_REPLY];
+        let answer = self.device.next_message(&self.image, &self.map, &mut reply);
+        link.send(now, End::Gateway, expected("Device::next_message", answer)?);
+        self.ask_at = now + RETRY;
+        Ok(())
+    }
+
+    /// Begun once, whatever arrives meanwhile. A real one copies the first `image_length` bytes of the image to where
+    /// they run.
+    fn install(&mut self, now: Ticks) -> Result<(), Failure> {
+        match self.installed_at {
+            None => self.installed_at = Some(now + INSTALLATION),
+            Some(done) if now >= done => {
+                self.installed_at = None;
+                let answer = self.device.install_finished(install::INSTALLED);
+                expected("Device::install_finished", answer)?;
+                self.ask_at = now; // the report
+            }
+            Some(_) => {}
+        }
+        Ok(())
+    }
+
+    fn tick(&mut self, link: &mut Link, now: Ticks) -> Result<(), Failure> {
+        if self.device.phase() == device_phase::INSTALLING {
+            self.install(now)?;
+        }
+        if now >= self.ask_at {
+            self.ask(link, now)?;
+        }
+        Ok(())
+    }
+
+    fn runs_target(&self) -> bool {
+        let running = self.device.running();
+        let (text, rest) = running.split_at(TARGET.len());
+        text == TARGET.as_bytes() && rest.iter().all(|byte| *byte == 0)
+    }
+
+    fn image_is(&self, package: &[u8]) -> bool {
+        self.device.image_length() == package.len() && self.image.starts_with(package)
+    }
+}
+
+struct GatewayHost<'a> {
+    gateway: Gateway,
+    package: &'a [u8],
+    /// Of a fragment.
+    size: u16,
+    /// When to ask for the next message.
+    ask_at: Ticks,
+    /// When the last message was handled.
+    heard_at: Ticks,
+    /// When the gateway ended or was seen to stand still.
+    over_at: Option<Ticks>,
+    /// The device has answered the order to install.
+    executing: bool,
+    /// Requests that this gateway answered.
+    requests: u64,
+    fruitless: u32,
+    started: u64,
+}
+
+/// With the package's code, for then the device tests the image, and resumes what it has begun.
+fn start(size: u16, package: &[u8]) -> Result<Gateway, Failure> {
+    Gateway::start(TARGET.as_bytes(), size, package, true).map_err(Failure::Package)
+}
+
+impl<'a> GatewayHost<'a> {
+    fn new(package: &'a [u8]) -> Result<GatewayHost<'a>, Failure> {
+        Ok(GatewayHost {
+            gateway: start(FRAGMENT_SIZE, package)?,
+            package,
+            size: FRAGMENT_SIZE,
+            ask_at: 0,
+            heard_at: 0,
+            over_at: None,
+            executing: false,
+            requests: 0,
+            fruitless: 0,
+            started: 1,
+        })
+    }
+
+    fn has_ended(&self) -> bool {
+        self.gateway.phase() == gateway_phase::ENDED
+    }
+
+    fn has_succeeded(&self) -> bool {
+        self.has_ended() && [ending::SUCCESS, ending::ALREADY_RUNNING].contains(&self.gateway.ending())
+    }
+
+    /// Whether the gateway is to get this message. Before its offer is accepted, and when it is over, it would tell a
+    /// device that asks for fragments, or has them all, that there is no such upgrade, and the device would drop what
+    /// it has. Unanswered, the device asks again, and the next offer resumes. A report is answered always: the device
+    /// is done, and any answer lets it rest.
+    fn wants(&self, message: &[u8]) -> bool {
+        let serves = [gateway_phase::SERVE, gateway_phase::RUN].contains(&self.gateway.phase());
+        match code_of(message) {
+            code::UPGRADE_RESULT => true,
+            code::FRAGMENT | code::DOWNLOAD_RESULT => self.over_at.is_none() && serves,
+            _ => self.over_at.is_none(),
+        }
+    }
+
+    fn receive(&mut self, link: &mut Link, now: Ticks, message: &[u8]) -> Result<(), Failure> {
+        if !self.wants(message) {
+            return Ok(());
+        }
+        let before = self.gateway.clone();
+        let mut reply = [0; GATEWAY_REPLY];
+        let answer = self.gateway.receive(Facts::BOTH, message, self.package, &mut reply);
+        if let Ok(reply) = answer {
+            self.handled(now, message, reply);
+        }
+        link.send(now, End::Device, expected("Gateway::receive", answer)?);
+        if self.gateway != before {
+            self.ask_at = now;
+            if self.has_ended() {
+                self.ended(now, message);
+            }
+        }
+        Ok(())
+    }
+
+    fn handled(&mut self, now: Ticks, message: &[u8], reply: &[u8]) {
+        self.heard_at = now;
+        self.requests += u64::from(!reply.is_empty());
+        self.executing |= code_of(message) == code::EXECUTE;
+    }
+
+    fn ended(&mut self, now: Ticks, message: &[u8]) {
+        let meaning = [
+            "success",
+            "the version is running already",
+            "offer refused",
+            "download failed",
+            "execution refused",
+            "installation failed",
+        ];
+        let ending = self.gateway.ending();
+        self.over_at = Some(now);
+        tell(format_args!(
+            "tick {}: gateway {} ended with {}, {}; the device said {:02X}",
+            now,
+            self.started,
+            ending,
+            meaning[usize::from(ending)],
+            result_of(message).unwrap_or_default()
+        ));
+    }
+
+    fn stands_still(&mut self, now: Ticks) {
+        let phase = ["Ask", "Offer", "Serve", "Run"][usize::from(self.gateway.phase())];
+        self.over_at = Some(now);
+        tell(format_args!("tick {}: gateway {} stands still in {}", now, self.started, phase));
+    }
+
+    fn ask(&mut self, link: &mut Link, now: Ticks) -> Result<(), Failure> {
+        let mut reply = [0; GATEWAY_REPLY];
+        let answer = self.gateway.next_message(self.package, &mut reply);
+        link.send(now, End::Device, expected("Gateway::next_message", answer)?);
+        self.ask_at = now + RETRY;
+        Ok(())
+    }
+
+    /// The next gateway, on the same package. One that stood still in Serve, and was asked for nothing, may have met a
+    /// device that holds the whole package and has told it to an earlier gateway. Another fragment size makes an offer
+    /// that is no resume: the device fetches the package again, and tests it again, which it would not if the offer had
+    /// no code. False: no use in going on.
+    fn next(&mut self, now: Ticks) -> Result<bool, Failure> {
+        self.fruitless = if self.requests > 0 { 0 } else { self.fruitless + 1 };
+        if self.fruitless == MOST_FRUITLESS {
+            return Ok(false);
+        }
+        if self.gateway.phase() == gateway_phase::SERVE && self.requests == 0 {
+            self.size = if self.size == FRAGMENT_SIZE { OTHER_FRAGMENT_SIZE } else { FRAGMENT_SIZE };
+        }
+        self.gateway = start(self.size, self.package)?;
+        self.ask_at = now;
+        self.heard_at = now;
+        self.over_at = None;
+        self.executing = false;
+        self.requests = 0;
+        self.started += 1;
+        Ok(true)
+    }
+
+    /// A gateway is over when it has ended, or stands still. If that was no success, the next one starts, but not
+    /// before all that was sent has arrived or is lost. When the order to install has been answered, it is not given
+    /// again: a device that has finished meanwhile would refuse it. False: no use in going on.
+    fn tick(&mut self, link: &mut Link, now: Ticks) -> Result<bool, Failure> {
+        if self.has_succeeded() {
+            return Ok(true);
+        }
+        if let Some(over_at) = self.over_at {
+            return if now < over_at + QUIET { Ok(true) } else { self.next(now) };
+        }
+        if now >= self.heard_at + STANDSTILL {
+            self.stands_still(now);
+        } else if now >= self.ask_at && !self.executing {
+            self.ask(link, now)?;
+        }
+        Ok(true)
+    }
+}
+
+/// Runs both hosts until the upgrade has succeeded and the device is at rest; false if that does not come about.
+fn upgrade(device: &mut DeviceHost, gateway: &mut GatewayHost, link: &mut Link) -> Result<bool, Failure> {
+    for now in 0..MOST_TICKS {
+        link.tick(now);
+        while let Some(message) = link.take(now) {
+            match message.to {
+                End::Device => device.receive(link, now, &message.bytes)?,
+                End::Gateway => gateway.receive(link, now, &message.bytes)?,
+            }
+        }
+        device.tick(link, now)?;
+        if !gateway.tick(link, now)? {
+            return Ok(false);
+        }
+        if gateway.has_succeeded() && device.device.phase() == device_phase::IDLE {
+            return Ok(true);
+        }
+    }
+    Ok(false)
+}
+
+/// The account, and whether all is as it should be.
+fn report(device: &DeviceHost, gateway: &GatewayHost, link: &Link, succeeded: bool) -> bool {
+    tell(format_args!("messages: {} sent, {} lost, {} repeated", link.sent, link.lost, link.repeated));
+    tell(format_args!("fragments: {} stored, {} came again", device.stored, device.repeated));
+    tell(format_args!("resumes: {}, gateways: {}", device.resumes, gateway.started));
+    if !succeeded {
+        tell(format_args!("gave up: the device was not upgraded"));
+    } else if !device.runs_target() {
+        tell(format_args!("the device does not run {}", TARGET));
+    } else if !device.image_is(gateway.package) {
+        tell(format_args!("upgraded to {}, but the image is not the package", TARGET));
+    } else {
+        tell(format_args!("upgraded to {}: {} bytes, image equals package", TARGET, gateway.package.len()));
+        return true;
+    }
+    false
+}
+
+/// Reads no more than shows that a package is too long.
+fn read_package(path: &str) -> Result<Vec<u8>, Failure> {
+    let mut package = Vec::new();
+    let read = File::open(path).and_then(|file| file.take(MOST_PACKAGE + 1).read_to_end(&mut package));
+    read.map_err(|error| Failure::Read(path.to_string(), error))?;
+    Ok(package)
+}
+
+/// Digits alone, for `parse` also takes a sign.
+fn read_seed(text: &str) -> Option<u64> {
+    text.parse().ok().filter(|_| text.bytes().all(|byte| byte.is_ascii_digit()))
+}
+
+fn arguments() -> Option<(String, u64)> {
+    let arguments: Vec<String> =
+        env::args_os().skip(1).map(|argument| argument.into_string().ok()).collect::<Option<_>>()?;
+    match arguments.as_slice() {
+        [path] => Some((path.clone(), 1)),
+        [path, seed] => Some((path.clone(), read_seed(seed)?)),
+        _ => None,
+    }
+}
+
+fn run() -> Result<bool, Failure> {
+    let (path, seed) = arguments().ok_or(Failure::Usage)?;
+    let package = read_package(&path)?;
+    let mut gateway = GatewayHost::new(&package)?;
+    let mut device = DeviceHost::new(!seed)?;
+    let mut link = Link::new(seed);
+    let succeeded = upgrade(&mut device, &mut gateway, &mut link)?;
+    Ok(report(&device, &gateway, &link, succeeded))
+}
+
+fn main() -> ExitCode {
+    match run() {
+        Ok(true) => ExitCode::SUCCESS,
+        Ok(false) => ExitCode::FAILURE,
+        Err(failure) => {
+            eprintln!("{}", failure);
+            ExitCode::from(if matches!(failure, Failure::Usage) { 2 } else { 1 })
+        }
+    }
+}
