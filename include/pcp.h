@@ -151,8 +151,9 @@
    the device had stored before, under an announcement of the same version,
    size, total and code, must be of the same package; to tell packages of one
    version apart is what the code is for.  Damage on the way is found by the
-   messages' 16-bit check and, with a code, by that of the package: most of it,
-   not all.  Neither protects against forgery.
+   messages' 16-bit check: most of it, not all.  The package's code is the same
+   check, so what the one does not see, the other may not see either.  Neither
+   protects against forgery.
 
 
    Example: a device
@@ -635,7 +636,7 @@ static inline uint16_t pcp_device_stored(const uint8_t *record)
 }
 
 /* How many of the image's first bytes are the package, once all fragments are
-   stored (Loaded, Acked, Installing, Reporting). */
+   stored (Loaded, Acked, Failed, Installing, Reporting). */
 static inline uint32_t pcp_device_image_length(const uint8_t *record)
 {
     uint32_t size = pcp_word(record + 33), total = pcp_device_total(record);
