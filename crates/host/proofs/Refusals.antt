@@ -4,6 +4,7 @@ use native.Mathlib.Omega.{arith}
 use mathlib.Core.Path.{_≡_, refl, sym, ap, subst}
 use mathlib.Core.Bool.{Bool}
 use mathlib.Core.List.{List, [], _∷_}
+use lib.Dec.{eqb}
 use lib.ListN.{length}
 use Rattle.basis.specs.Choice.{pick, refusal}
 use Rattle.basis.proofs.Choosing.{by-cases, refusal-among}
@@ -72,6 +73,14 @@ module _ (d : Device) (image map reply : List ℕ) where
       (λ _. device-handled condition (readOf toDevice supported pcp message) (read-small toDevice device-round-trip supported pcp message))
       (λ _. declined _ (refusal-among (λ n. n < 256) _ (omega arith) (omega arith)) refl)
 
+  pub device-number : (supported pcp : Bool) (condition : ℕ) (message : List ℕ)
+      → device.receiveOf d image map reply supported pcp condition message .number < 256
+  device-number supported pcp condition message = at _ (device-outcome supported pcp condition message)
+    where
+      at : (a : device.After) → DeviceOutcome a → a .number < 256
+      at a (done e) = omega arith
+      at a (declined n small e) = rw e small
+
 module _ (g : Gateway) (content reply : List ℕ) where
   pub data GatewayOutcome (a : gateway.After) : Type 0 where
     done : a .number ≡ 0 → GatewayOutcome a
@@ -95,6 +104,13 @@ module _ (g : Gateway) (content reply : List ℕ) where
       (λ _. gateway-handled (readOf toGateway supported pcp message) (read-small toGateway gateway-round-trip supported pcp message))
       (λ _. declined _ (refusal-among (λ n. n < 256) _ (omega arith) (omega arith)) refl)
 
+  pub gateway-number : (supported pcp : Bool) (message : List ℕ) → gateway.receiveOf g content reply supported pcp message .number < 256
+  gateway-number supported pcp message = at _ (gateway-outcome supported pcp message)
+    where
+      at : (a : gateway.After) → GatewayOutcome a → a .number < 256
+      at a (done e) = omega arith
+      at a (declined n small e) = rw e small
+
 -- ---- the next message is asked for
 
 module _ (t : Table) (reply : List ℕ) where
@@ -106,22 +122,50 @@ module _ (t : Table) (reply : List ℕ) where
   said-refused (found m) small h = absurd (h (omega arith))
   said-refused (refused n) small h = (omega arith, refl)
 
--- what there is to say, or a number below 256
-device-wanted : (d : Device) (image map reply : List ℕ) → Unsaid toGateway reply (asked (device.nextMessageOf d image map reply))
-unfolding device.nextMessageOf device.wanted
-device-wanted d image map reply =
-    said-refused toGateway reply _
-    (by-cases Small
-    (λ _. by-cases Small (λ _. by-cases Small (λ _. tt) (λ _. omega arith))
-    (λ _. by-cases Small (λ _. tt) (λ _. by-cases Small (λ _. tt) (λ _. by-cases Small (λ _. tt) (λ _. omega arith)))))
-    (λ _. refusal-among (λ n. n < 256) _ (omega arith) (omega arith)))
+  said-number : (r : Reading (t .Message)) → Small r → said t r reply .number < 256
+  unfolding said
+  said-number (found m) small = omega arith
+  said-number (refused n) small = small
 
-gateway-wanted : (g : Gateway) (content reply : List ℕ) → Unsaid toDevice reply (asked (gateway.nextMessageOf g content reply))
-unfolding gateway.nextMessageOf gateway.wanted
-gateway-wanted g content reply =
-    said-refused toDevice reply _
-    (by-cases Small (λ _. by-cases Small (λ _. tt) (λ _. by-cases Small (λ _. tt) (λ _. by-cases Small (λ _. tt) (λ _. omega arith))))
-    (λ _. refusal-among (λ n. n < 256) _ (omega arith) (omega arith)))
+-- behind a guard, what there is to say, or a number below 256
+guarded-small : {M : Type 0} (n : ℕ) (r : Reading M) → n < 256 → Small r → Small (pick (eqb n 0) r (refused n))
+guarded-small n r h small = by-cases Small (λ _. small) (λ _. h)
+
+module _ (d : Device) (image map reply : List ℕ) where
+  device-wanted : Small (device.wanted d map)
+  unfolding device.wanted
+  device-wanted =
+      by-cases Small (λ _. by-cases Small (λ _. tt) (λ _. omega arith))
+      (λ _. by-cases Small (λ _. tt) (λ _. by-cases Small (λ _. tt) (λ _. by-cases Small (λ _. tt) (λ _. omega arith))))
+
+  device-ask-refused : Unsaid toGateway reply (asked (device.nextMessageOf d image map reply))
+  unfolding device.nextMessageOf
+  device-ask-refused =
+      said-refused toGateway reply _
+      (guarded-small _ (device.wanted d map) (refusal-among (λ n. n < 256) _ (omega arith) (omega arith)) device-wanted)
+
+  pub device-ask-number : device.nextMessageOf d image map reply .number < 256
+  unfolding device.nextMessageOf
+  device-ask-number =
+      said-number toGateway reply _
+      (guarded-small _ (device.wanted d map) (refusal-among (λ n. n < 256) _ (omega arith) (omega arith)) device-wanted)
+
+module _ (g : Gateway) (content reply : List ℕ) where
+  gateway-wanted : Small (gateway.wanted g)
+  unfolding gateway.wanted
+  gateway-wanted = by-cases Small (λ _. tt) (λ _. by-cases Small (λ _. tt) (λ _. by-cases Small (λ _. tt) (λ _. omega arith)))
+
+  gateway-ask-refused : Unsaid toDevice reply (asked (gateway.nextMessageOf g content reply))
+  unfolding gateway.nextMessageOf
+  gateway-ask-refused =
+      said-refused toDevice reply _
+      (guarded-small _ (gateway.wanted g) (refusal-among (λ n. n < 256) _ (omega arith) (omega arith)) gateway-wanted)
+
+  pub gateway-ask-number : gateway.nextMessageOf g content reply .number < 256
+  unfolding gateway.nextMessageOf
+  gateway-ask-number =
+      said-number toDevice reply _
+      (guarded-small _ (gateway.wanted g) (refusal-among (λ n. n < 256) _ (omega arith) (omega arith)) gateway-wanted)
 
 -- ---- every call
 
@@ -166,7 +210,7 @@ demand-1 =
           (λ _. device-untouched bytes image map reply _ (device-outcome (deviceAt bytes) image map reply _ _ condition message))
           (λ _ h. (omega arith, refl, refl, refl, refl));
       device-next-message = λ bytes image map reply.
-          by-cases (Unsaid toGateway reply) (λ _. device-wanted (deviceAt bytes) image map reply) (λ _ h. (omega arith, refl));
+          by-cases (Unsaid toGateway reply) (λ _. device-ask-refused (deviceAt bytes) image map reply) (λ _ h. (omega arith, refl));
       device-install-finished = λ bytes code. by-cases (Unkept bytes) (λ _ h. stays _ deviceLength _ bytes h) (λ _ h. refl);
       gateway-start = λ bytes version size content checked. by-cases (Unkept bytes) (λ _ h. stays _ gatewayLength _ bytes h) (λ _ h. refl);
       gateway-receive = λ bytes content reply supported pcp message.
@@ -174,5 +218,5 @@ demand-1 =
           (λ _. gateway-untouched bytes content reply _ (gateway-outcome (gatewayAt bytes) content reply _ _ message))
           (λ _ h. (omega arith, refl, refl));
       gateway-next-message = λ bytes content reply.
-          by-cases (Unsaid toDevice reply) (λ _. gateway-wanted (gatewayAt bytes) content reply) (λ _ h. (omega arith, refl));
+          by-cases (Unsaid toDevice reply) (λ _. gateway-ask-refused (gatewayAt bytes) content reply) (λ _ h. (omega arith, refl));
     }
