@@ -1,4 +1,6 @@
-# Shared by scripts/test and scripts/bench, which source it at the repository's root.
+# Shared by the other scripts, which source it at the repository's root.
+
+archive=target/staticlib/libhost.a
 
 # need TOOL..: sees that each is there; its Debian package has the same name.
 need() {
@@ -26,4 +28,27 @@ rust_program() {
 # rust_host SOURCE PROGRAM: builds a Rust program that links the library.
 rust_host() {
     rust_program "$1" "$2" -L native=target/staticlib -l static=host
+}
+
+# last_line PROGRAM ARGUMENT..: runs it and shows its last line, or all that it printed where it fails.
+last_line() {
+    local output
+    if output=$("$@"); then
+        tail -n 1 <<<"$output"
+    else
+        printf '%s\n' "$output"
+        return 1
+    fi
+}
+
+sanitizers=-fsanitize=address,undefined
+# What a Rust program needs to call the library through tests/c/boundary.c; the archive comes after it.
+boundary=(--cfg boundary -C linker=gcc -C default-linker-libraries=yes -C link-arg="$sanitizers"
+    -C link-arg=target/hosts/boundary.o)
+
+# boundary_object: compiles tests/c/boundary.c with sanitizers.
+boundary_object() {
+    mkdir -p target/hosts
+    gcc -std=c99 -Wall -Wextra -Werror -O1 -g "$sanitizers" -fno-sanitize-recover=all -Iinclude \
+        -c tests/c/boundary.c -o target/hosts/boundary.o
 }
