@@ -1,4 +1,7 @@
-# Shared by scripts/test and scripts/bench, which source it at the repository's root.
+# Shared by the other scripts, which source it at the repository's root.
+
+archive=target/staticlib/libhost.a
+sanitizers=(-fsanitize=address,undefined -fno-sanitize-recover=all)
 
 # need TOOL..: sees that each is there; its Debian package has the same name.
 need() {
@@ -20,8 +23,7 @@ need() {
 # c_host SOURCE PROGRAM FLAG..: builds a C program that links the library.
 c_host() {
     mkdir -p target/hosts
-    gcc -std=c99 -Wall -Wextra -Werror -O2 "${@:3}" -Iinclude "$1" target/staticlib/libhost.a \
-        -o "target/hosts/$2"
+    gcc -std=c99 -Wall -Wextra -Werror -O2 "${@:3}" -Iinclude "$1" "$archive" -o "target/hosts/$2"
 }
 
 # rust_program SOURCE PROGRAM FLAG..: builds a Rust program.
@@ -33,4 +35,26 @@ rust_program() {
 # rust_host SOURCE PROGRAM: builds a Rust program that links the library.
 rust_host() {
     rust_program "$1" "$2" -L native=target/staticlib -l static=host
+}
+
+# last_line PROGRAM ARGUMENT..: runs it and shows its last line, or all that it printed where it fails.
+last_line() {
+    local output
+    if output=$("$@"); then
+        tail -n 1 <<<"$output"
+    else
+        printf '%s\n' "$output"
+        return 1
+    fi
+}
+
+# What a Rust program needs to call the library through tests/c/boundary.c; the archive comes after it.
+boundary=(--cfg boundary -C linker=gcc -C default-linker-libraries=yes -C link-arg="${sanitizers[0]}"
+    -C link-arg=target/hosts/boundary.o)
+
+# boundary_object: compiles tests/c/boundary.c with sanitizers.
+boundary_object() {
+    mkdir -p target/hosts
+    gcc -std=c99 -Wall -Wextra -Werror -O1 -g "${sanitizers[@]}" -Iinclude -c tests/c/boundary.c \
+        -o target/hosts/boundary.o
 }

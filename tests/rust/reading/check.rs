@@ -49,9 +49,9 @@ pub fn check(bytes: &[u8]) -> u16 {
     run(0, bytes)
 }
 
-/// The check over a message of at least 6 bytes, as if its check field were 0000.
+/// The check over a message, as if its check field were 0000. What a short message lacks of it does not count.
 pub fn message_check(message: &[u8]) -> u16 {
-    let before = run(0, &message[..4]);
-    let field = run(before, &[0, 0]);
-    run(field, &message[6..])
+    let (before, rest) = message.split_at(message.len().min(4));
+    let (field, after) = rest.split_at(rest.len().min(2));
+    run(run(run(0, before), &[0, 0][..field.len()]), after)
 }

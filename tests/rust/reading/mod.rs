@@ -4,10 +4,12 @@
 // Each test program uses a part of the reading.
 #![allow(dead_code)]
 
+pub mod boundary;
 pub mod capture;
 pub mod check;
 pub mod device;
 pub mod gateway;
+pub mod layout;
 pub mod message;
 pub mod replay;
 

@@ -1,0 +1,325 @@
+/* The library as a host in C calls it.  Each call of the differential runner
+   passes through here, to the header's functions, with copies of its buffers:
+   in allocations of exactly their size, then right before memory that cannot
+   be used, then right behind such memory.  A use of a byte outside stops the
+   program; so does a result that depends on the place. */
+#define _DEFAULT_SOURCE /* for MAP_ANONYMOUS */
+#include "pcp.h"
+
+#include <stdio.h>
+#include <stdlib.h>
+#include <string.h>
+#include <sys/mman.h>
+
+enum {
+    ROOM = 1 << 22, /* more than any buffer of the runner */
+    GUARD = 1 << 16 /* a whole number of pages */
+};
+
+/* The buffers that a call may have. */
+enum { RECORD, INPUT, IMAGE, MAP, PACKAGE, REPLY, BUFFERS };
+
+/* Where their copies are. */
+enum { ALLOCATED, BEFORE_GUARD, BEHIND_GUARD, PLACES };
+
+typedef struct {
+    const uint8_t *bytes;
+    uint8_t *writable; /* the same; NULL if the call may only read them */
+    size_t length;
+} buffer;
+
+typedef struct {
+    buffer buffers[BUFFERS];
+    uint8_t supported, pcp, condition, code, checked;
+    uint16_t size;
+} call;
+
+typedef uint32_t function(const call *c, uint8_t *const at[BUFFERS]);
+
+/* The program is stopped by a signal, on which the runner tells the call. */
+const char *__asan_default_options(void)
+{
+    return "abort_on_error=1:handle_segv=0:handle_sigbus=0";
+}
+
+static void expect(int holds, const char *what)
+{
+    if (holds)
+        return;
+    fprintf(stderr, "boundary: %s\n", what);
+    abort();
+}
+
+/* A room between two guards, one for each buffer. */
+static uint8_t *room_of(int which)
+{
+    static uint8_t *rooms[BUFFERS];
+
+    if (rooms[which] == NULL) {
+        uint8_t *all = mmap(NULL, ROOM + 2 * GUARD, PROT_NONE,
+                            MAP_PRIVATE | MAP_ANONYMOUS, -1, 0);
+
+        expect(all != MAP_FAILED, "no memory");
+        expect(mprotect(all + GUARD, ROOM, PROT_READ | PROT_WRITE) == 0,
+               "no guard");
+        rooms[which] = all + GUARD;
+    }
+    return rooms[which];
+}
+
+/* A copy, or NULL for no bytes: the header allows that. */
+static uint8_t *copy_to(int place, int which, const buffer *b)
+{
+    uint8_t *at;
+
+    if (b->length == 0)
+        return NULL;
+    expect(b->length <= ROOM, "a buffer is longer than its room");
+    if (place == ALLOCATED)
+        at = malloc(b->length);
+    else if (place == BEFORE_GUARD)
+        at = room_of(which) + ROOM - b->length;
+    else
+        at = room_of(which);
+    expect(at != NULL, "no memory");
+    memcpy(at, b->bytes, b->length);
+    return at;
+}
+
+static int same(const uint8_t *a, const uint8_t *b, size_t length)
+{
+    return length == 0 || memcmp(a, b, length) == 0;
+}
+
+/* Gives what the call wrote back to the runner, and frees the copies. */
+static void give_back(const call *c, uint8_t *const at[BUFFERS])
+{
+    for (int i = 0; i < BUFFERS; i++) {
+        const buffer *b = &c->buffers[i];
+
+        if (b->writable == NULL)
+            expect(same(at[i], b->bytes, b->length), "wrote what is only lent");
+        else if (b->length > 0)
+            memcpy(b->writable, at[i], b->length);
+        free(at[i]);
+    }
+}
+
+static uint32_t make(function *f, const call *c)
+{
+    uint8_t *first[BUFFERS] = {NULL}, *at[BUFFERS] = {NULL};
+    uint32_t result;
+
+    for (int i = 0; i < BUFFERS; i++)
+        first[i] = copy_to(ALLOCATED, i, &c->buffers[i]);
+    result = f(c, first);
+    for (int place = BEFORE_GUARD; place < PLACES; place++) {
+        for (int i = 0; i < BUFFERS; i++)
+            at[i] = copy_to(place, i, &c->buffers[i]);
+        expect(f(c, at) == result, "the result depends on the place");
+        for (int i = 0; i < BUFFERS; i++)
+            expect(same(at[i], first[i], c->buffers[i].length),
+                   "what is written depends on the place");
+    }
+    give_back(c, first);
+    return result;
+}
+
+static buffer reads(const uint8_t *bytes, size_t length)
+{
+    buffer b = {bytes, NULL, length};
+
+    return b;
+}
+
+static buffer writes(uint8_t *bytes, size_t length)
+{
+    buffer b = {bytes, bytes, length};
+
+    return b;
+}
+
+static uint32_t packed(pcp_answer answer)
+{
+    return answer.number + 256u * answer.length;
+}
+
+/* The header's functions, on copies.  A buffer passes as two arguments. */
+#define COPY(which) at[which], c->buffers[which].length
+
+static uint32_t check(const call *c, uint8_t *const at[BUFFERS])
+{
+    return pcp_check_of_bytes(COPY(INPUT));
+}
+
+static uint32_t message_check(const call *c, uint8_t *const at[BUFFERS])
+{
+    return pcp_check_of_message(COPY(INPUT));
+}
+
+static uint32_t recognise(const call *c, uint8_t *const at[BUFFERS])
+{
+    return pcp_recognise_message(c->supported, c->pcp, COPY(INPUT));
+}
+
+static uint32_t device_new(const call *c, uint8_t *const at[BUFFERS])
+{
+    return pcp_device_new(COPY(RECORD), COPY(INPUT));
+}
+
+static uint32_t device_receive(const call *c, uint8_t *const at[BUFFERS])
+{
+    return packed(pcp_device_receive(COPY(RECORD), c->supported, c->pcp,
+                                     c->condition, COPY(INPUT), COPY(IMAGE),
+                                     COPY(MAP), COPY(REPLY)));
+}
+
+static uint32_t device_next_message(const call *c, uint8_t *const at[BUFFERS])
+{
+    return packed(pcp_device_next_message(COPY(RECORD), COPY(IMAGE), COPY(MAP),
+                                          COPY(REPLY)));
+}
+
+static uint32_t device_install_finished(const call *c,
+                                        uint8_t *const at[BUFFERS])
+{
+    return pcp_device_install_finished(COPY(RECORD), c->code);
+}
+
+static uint32_t gateway_start(const call *c, uint8_t *const at[BUFFERS])
+{
+    return pcp_gateway_start(COPY(RECORD), COPY(INPUT), c->size, COPY(PACKAGE),
+                             c->checked);
+}
+
+static uint32_t gateway_receive(const call *c, uint8_t *const at[BUFFERS])
+{
+    return packed(pcp_gateway_receive(COPY(RECORD), c->supported, c->pcp,
+                                      COPY(INPUT), COPY(PACKAGE), COPY(REPLY)));
+}
+
+static uint32_t gateway_next_message(const call *c, uint8_t *const at[BUFFERS])
+{
+    return packed(pcp_gateway_next_message(COPY(RECORD), COPY(PACKAGE),
+                                           COPY(REPLY)));
+}
+
+/* What the runner calls: as the archive's own symbols, see the header. */
+
+uint16_t boundary_check(const uint8_t *bytes, size_t length)
+{
+    call c = {.buffers[INPUT] = reads(bytes, length)};
+
+    return (uint16_t)make(check, &c);
+}
+
+uint16_t boundary_message_check(const uint8_t *message, size_t length)
+{
+    call c = {.buffers[INPUT] = reads(message, length)};
+
+    return (uint16_t)make(message_check, &c);
+}
+
+uint8_t boundary_recognise(uint8_t supported, uint8_t pcp,
+                           const uint8_t *message, size_t length)
+{
+    call c = {.buffers[INPUT] = reads(message, length),
+              .supported = supported,
+              .pcp = pcp};
+
+    return (uint8_t)make(recognise, &c);
+}
+
+uint8_t boundary_device_new(uint8_t *record, size_t record_length,
+                            const uint8_t *version, size_t version_length)
+{
+    call c = {.buffers[RECORD] = writes(record, record_length),
+              .buffers[INPUT] = reads(version, version_length)};
+
+    return (uint8_t)make(device_new, &c);
+}
+
+uint32_t boundary_device_receive(uint8_t *record, size_t record_length,
+                                 uint8_t supported, uint8_t pcp,
+                                 uint8_t condition, const uint8_t *message,
+                                 size_t message_length, uint8_t *image,
+                                 size_t image_length, uint8_t *map,
+                                 size_t map_length, uint8_t *reply,
+                                 size_t reply_length)
+{
+    call c = {.buffers[RECORD] = writes(record, record_length),
+              .buffers[INPUT] = reads(message, message_length),
+              .buffers[IMAGE] = writes(image, image_length),
+              .buffers[MAP] = writes(map, map_length),
+              .buffers[REPLY] = writes(reply, reply_length),
+              .supported = supported,
+              .pcp = pcp,
+              .condition = condition};
+
+    return make(device_receive, &c);
+}
+
+uint32_t boundary_device_next_message(const uint8_t *record,
+                                      size_t record_length,
+                                      const uint8_t *image, size_t image_length,
+                                      const uint8_t *map, size_t map_length,
+                                      uint8_t *reply, size_t reply_length)
+{
+    call c = {.buffers[RECORD] = reads(record, record_length),
+              .buffers[IMAGE] = reads(image, image_length),
+              .buffers[MAP] = reads(map, map_length),
+              .buffers[REPLY] = writes(reply, reply_length)};
+
+    return make(device_next_message, &c);
+}
+
+uint8_t boundary_device_install_finished(uint8_t *record, size_t record_length,
+                                         uint8_t code)
+{
+    call c = {.buffers[RECORD] = writes(record, record_length), .code = code};
+
+    return (uint8_t)make(device_install_finished, &c);
+}
+
+uint8_t boundary_gateway_start(uint8_t *record, size_t record_length,
+                               const uint8_t *version, size_t version_length,
+                               uint16_t size, const uint8_t *package,
+                               size_t package_length, uint8_t checked)
+{
+    call c = {.buffers[RECORD] = writes(record, record_length),
+              .buffers[INPUT] = reads(version, version_length),
+              .buffers[PACKAGE] = reads(package, package_length),
+              .size = size,
+              .checked = checked};
+
+    return (uint8_t)make(gateway_start, &c);
+}
+
+uint32_t boundary_gateway_receive(uint8_t *record, size_t record_length,
+                                  uint8_t supported, uint8_t pcp,
+                                  const uint8_t *message, size_t message_length,
+                                  const uint8_t *package, size_t package_length,
+                                  uint8_t *reply, size_t reply_length)
+{
+    call c = {.buffers[RECORD] = writes(record, record_length),
+              .buffers[INPUT] = reads(message, message_length),
+              .buffers[PACKAGE] = reads(package, package_length),
+              .buffers[REPLY] = writes(reply, reply_length),
+              .supported = supported,
+              .pcp = pcp};
+
+    return make(gateway_receive, &c);
+}
+
+uint32_t boundary_gateway_next_message(const uint8_t *record,
+                                       size_t record_length,
+                                       const uint8_t *package,
+                                       size_t package_length, uint8_t *reply,
+                                       size_t reply_length)
+{
+    call c = {.buffers[RECORD] = reads(record, record_length),
+              .buffers[PACKAGE] = reads(package, package_length),
+              .buffers[REPLY] = writes(reply, reply_length)};
+
+    return make(gateway_next_message, &c);
+}

@@ -1,0 +1,112 @@
+//! One call made at the library and at the reading, from the same memory; result and memory are compared whole.
+
+use super::library::Library;
+use super::run::Run;
+use super::{Call, Lent, Memory};
+use crate::reading::boundary::Reading;
+use crate::reading::replay::hex;
+use std::fmt::Write;
+use std::sync::atomic::{AtomicPtr, Ordering};
+use std::{process, ptr};
+
+/// The call at work, and where it stands among all.
+pub struct Comparison {
+    pub seed: u64,
+    pub run: u64,
+    pub calls: u64,
+    call: Call,
+    lent: Lent,
+    before: Memory,
+    library: Memory,
+}
+
+/// A call that both sides answered in the same way.
+pub struct Made<'a> {
+    pub call: Call,
+    pub result: u32,
+    pub before: &'a Memory,
+    pub after: &'a Memory,
+}
+
+impl Comparison {
+    pub fn new(seed: u64) -> Comparison {
+        Comparison {
+            seed,
+            run: 0,
+            calls: 0,
+            call: Call::Check,
+            lent: Lent { record: 0, image: 0, map: 0, package: 0, reply: 0 },
+            before: Memory::default(),
+            library: Memory::default(),
+        }
+    }
+
+    /// Makes the run's next call on both sides, and shows it to the observer. A difference is described.
+    pub fn step(&mut self, run: &mut Run, observe: impl FnOnce(Made)) -> Result<(), String> {
+        self.calls += 1;
+        let (call, lent) = run.next_call();
+        (self.call, self.lent) = (call, lent);
+        self.before.copy_from(&run.memory);
+        self.library.copy_from(&run.memory);
+        let result = call.make(&Reading, &lent, &mut run.memory);
+        let got = call.make(&Library, &lent, &mut self.library);
+        if got != result || self.library != run.memory {
+            return Err(self.described() + &self.differences(got, result, &run.memory));
+        }
+        observe(Made { call, result, before: &self.before, after: &run.memory });
+        run.called(call, result);
+        Ok(())
+    }
+
+    /// The call with all that it was given.
+    fn described(&self) -> String {
+        let Comparison { seed, run, calls, call, lent, before, .. } = self;
+        let mut text = format!("seed {seed}, run {run}, call {calls}: {call:?}\nlent: {lent:?}\n");
+        for (name, bytes) in before.buffers() {
+            writeln!(text, "{name} ({} bytes): {}", bytes.len(), hex(bytes))
+                .expect("a string takes any text");
+        }
+        text
+    }
+
+    fn differences(&self, got: u32, expected: u32, reading: &Memory) -> String {
+        let shown = |result: u32| format!("number {}, reply of {}", result % 256, result / 256);
+        let mut text = format!("library: {}\nreading: {}\n", shown(got), shown(expected));
+        for ((name, got), (_, expected)) in self.library.buffers().into_iter().zip(reading.buffers()) {
+            if let Some(at) = (0..got.len()).find(|at| got[*at] != expected[*at]) {
+                let (got, expected) = (hex(got), hex(expected));
+                writeln!(text, "{name} differs from byte {at} on\nlibrary: {got}\nreading: {expected}")
+                    .expect("a string takes any text");
+            }
+        }
+        text
+    }
+}
+
+/// The comparison to describe when a signal ends the program.
+static AT_WORK: AtomicPtr<Comparison> = AtomicPtr::new(ptr::null_mut());
+
+extern "C" {
+    fn signal(number: i32, handler: extern "C" fn(i32)) -> usize;
+    fn _exit(status: i32) -> !;
+}
+
+/// SIGILL, SIGABRT, SIGBUS, SIGFPE, SIGSEGV
+const FATAL: [i32; 5] = [4, 6, 7, 8, 11];
+
+/// From here on, a call that ends the program by a signal is described. The library holds no lock and no heap that
+/// describing would need.
+pub fn watch(comparison: &mut Comparison) {
+    AT_WORK.store(comparison, Ordering::SeqCst);
+    for number in FATAL {
+        unsafe { signal(number, describe_call_at_work) };
+    }
+}
+
+extern "C" fn describe_call_at_work(number: i32) {
+    match unsafe { AT_WORK.swap(ptr::null_mut(), Ordering::SeqCst).as_ref() } {
+        Some(comparison) => println!("{}library: signal {number}", comparison.described()),
+        None => process::abort(),
+    }
+    unsafe { _exit(1) }
+}

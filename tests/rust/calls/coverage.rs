@@ -1,0 +1,271 @@
+//! What the calls have brought about, counted; and all that they have to.
+
+use super::comparison::Made;
+use super::run::Ends;
+use super::Call;
+use crate::reading::device::{Device, ACKED, FAILED, IDLE, INSTALLING, LOADED, LOADING, REPORTING};
+use crate::reading::gateway::{Gateway, ASK, ENDED, OFFER, RUN, SERVE};
+use crate::reading::layout::SHORT_RECORD;
+use crate::reading::message::{
+    ANNOUNCE, ANNOUNCE_ANSWERS, DOWNLOAD_RESULT, EXECUTE, FRAGMENT, HEADER, QUERY, UPGRADE_RESULT,
+    UPGRADE_RESULTS,
+};
+use crate::reading::number;
+use std::collections::{BTreeMap, BTreeSet};
+
+/// An event, with two numbers that tell it from others of its kind; 0 where it has none.
+type Event = (&'static str, u8, u8);
+
+/// The calls, by their numbers.
+const CHECK: &str = "check";
+const MESSAGE_CHECK: &str = "message check";
+const RECOGNISE: &str = "recognise";
+const DEVICE_NEW: &str = "device new";
+const DEVICE_RECEIVE: &str = "device receive";
+const DEVICE_NEXT: &str = "device next message";
+const DEVICE_INSTALL: &str = "device install finished";
+const GATEWAY_START: &str = "gateway start";
+const GATEWAY_RECEIVE: &str = "gateway receive";
+const GATEWAY_NEXT: &str = "gateway next message";
+/// What is sent, by code and first data byte.
+const DEVICE_REPLY: &str = "device reply";
+const DEVICE_MESSAGE: &str = "device message";
+const GATEWAY_REPLY: &str = "gateway reply";
+const GATEWAY_MESSAGE: &str = "gateway message";
+/// Messages, by code and the phase that they found.
+const DEVICE_HANDLED: &str = "device handled";
+const DEVICE_NO_USE: &str = "device had no use";
+const GATEWAY_HANDLED: &str = "gateway handled";
+const GATEWAY_NO_USE: &str = "gateway had no use";
+/// Steps, by the phases before and after.
+const DEVICE_STEP: &str = "device step";
+const GATEWAY_STEP: &str = "gateway step";
+const GATEWAY_ENDING: &str = "gateway ending";
+/// Announcements answered 00, by the phase that they found.
+const RESUMED: &str = "device resumed";
+const STARTED: &str = "device started a download";
+/// Downloads whose fragments are all stored: whether there is a code, and whether the last fragment is short.
+const LOADED_WITH: &str = "device loaded";
+const FAILED_WITH: &str = "device failed";
+/// Asking in Loading with no fragment missing.
+const FULL_MAP: &str = "device asked with a full map";
+
+#[derive(Default)]
+pub struct Coverage {
+    counts: BTreeMap<Event, u64>,
+}
+
+impl Coverage {
+    fn count(&mut self, event: Event) {
+        *self.counts.entry(event).or_default() += 1;
+    }
+
+    /// Steps are counted only in runs in which nobody else writes into the records.
+    pub fn observe(&mut self, made: Made, is_written_into: bool) {
+        let (number, length) = ((made.result % 256) as u8, made.result as usize / 256);
+        let (before, after) = (Ends::of(made.before), Ends::of(made.after));
+        let counts_steps = number == number::HANDLED && !is_written_into;
+        let reply = &made.after.reply[..if made.call.has_reply() { length } else { 0 }];
+        let result = reply.get(HEADER).copied().unwrap_or(0);
+        let sent = |kind| reply.get(3).map(|code| (kind, *code, result));
+        match made.call {
+            Call::Check => self.count((CHECK, 0, 0)),
+            Call::MessageCheck => self.count((MESSAGE_CHECK, 0, 0)),
+            Call::Recognise { .. } => self.count((RECOGNISE, number, 0)),
+            Call::DeviceNew => self.count((DEVICE_NEW, number, 0)),
+            Call::GatewayStart { .. } => self.count((GATEWAY_START, number, 0)),
+            Call::DeviceReceive { .. } => {
+                self.count((DEVICE_RECEIVE, number, 0));
+                self.count_message([DEVICE_HANDLED, DEVICE_NO_USE], number, &made, before.device.phase);
+                sent(DEVICE_REPLY).into_iter().for_each(|event| self.count(event));
+                if counts_steps {
+                    self.count_device_step(&before.device, &after.device);
+                    self.count_announcement(reply, result, &before.device, &after.device);
+                }
+            }
+            Call::DeviceNextMessage => {
+                self.count((DEVICE_NEXT, number, 0));
+                sent(DEVICE_MESSAGE).into_iter().for_each(|event| self.count(event));
+                if number == number::RECORD && is_sound(&before.device) {
+                    self.count((FULL_MAP, 0, 0));
+                }
+            }
+            Call::DeviceInstallFinished { .. } => {
+                self.count((DEVICE_INSTALL, number, 0));
+                if counts_steps {
+                    self.count_device_step(&before.device, &after.device);
+                }
+            }
+            Call::GatewayReceive { .. } => {
+                self.count((GATEWAY_RECEIVE, number, 0));
+                self.count_message([GATEWAY_HANDLED, GATEWAY_NO_USE], number, &made, before.gateway.phase);
+                sent(GATEWAY_REPLY).into_iter().for_each(|event| self.count(event));
+                if counts_steps {
+                    self.count_gateway_step(&before.gateway, &after.gateway);
+                }
+            }
+            Call::GatewayNextMessage => {
+                self.count((GATEWAY_NEXT, number, 0));
+                sent(GATEWAY_MESSAGE).into_iter().for_each(|event| self.count(event));
+            }
+        }
+    }
+
+    fn count_message(&mut self, [handled, no_use]: [&'static str; 2], number: u8, made: &Made, phase: u8) {
+        match number {
+            number::HANDLED => self.count((handled, made.before.input[3], phase)),
+            number::NO_USE => self.count((no_use, made.before.input[3], phase)),
+            _ => {}
+        }
+    }
+
+    fn count_device_step(&mut self, before: &Device, after: &Device) {
+        self.count((DEVICE_STEP, before.phase, after.phase));
+        let (coded, short) = (u8::from(after.code != 0), u8::from(after.last < after.size));
+        match (before.phase, after.phase) {
+            (LOADING, LOADED) => self.count((LOADED_WITH, coded, short)),
+            (LOADING, FAILED) => self.count((FAILED_WITH, coded, short)),
+            _ => {}
+        }
+    }
+
+    fn count_announcement(&mut self, reply: &[u8], result: u8, before: &Device, after: &Device) {
+        if reply.get(3) == Some(&ANNOUNCE) && result == 0x00 {
+            let is_resumed = before == after && before.stored > 0;
+            self.count((if is_resumed { RESUMED } else { STARTED }, before.phase, 0));
+        }
+    }
+
+    fn count_gateway_step(&mut self, before: &Gateway, after: &Gateway) {
+        self.count((GATEWAY_STEP, before.phase, after.phase));
+        if before.phase != ENDED && after.phase == ENDED {
+            self.count((GATEWAY_ENDING, after.ending, 0));
+        }
+    }
+
+    /// What can occur and was never met.
+    pub fn not_met(&self) -> Vec<String> {
+        let met: BTreeSet<Event> = self.counts.keys().copied().collect();
+        wanted().difference(&met).map(|(kind, first, second)| format!("{kind} {first} {second}")).collect()
+    }
+
+    /// One line for each kind of event.
+    pub fn summary(&self) -> String {
+        let mut lines: BTreeMap<&str, String> = BTreeMap::new();
+        for ((kind, first, second), count) in &self.counts {
+            lines.entry(kind).or_default().push_str(&format!(" {first},{second}={count}"));
+        }
+        lines.into_iter().map(|(kind, counts)| format!("{kind}:{counts}\n")).collect()
+    }
+}
+
+/// Whether 29 would not refuse the record; the installer's end tests that first.
+fn is_sound(device: &Device) -> bool {
+    device.clone().install_finished(0x00) != number::RECORD
+}
+
+/// All that can occur, by 01.
+fn wanted() -> BTreeSet<Event> {
+    let mut events = BTreeSet::from([(CHECK, 0, 0), (MESSAGE_CHECK, 0, 0), (FULL_MAP, 0, 0)]);
+    events.extend(wanted_numbers());
+    events.extend(wanted_messages());
+    events.extend(wanted_steps());
+    events.extend(wanted_sendings());
+    events
+}
+
+fn one_each(kind: &'static str, numbers: &[u8]) -> Vec<Event> {
+    numbers.iter().map(|number| (kind, *number, 0)).collect()
+}
+
+fn with_each(kind: &'static str, first: u8, seconds: &[u8]) -> Vec<Event> {
+    seconds.iter().map(|second| (kind, first, *second)).collect()
+}
+
+fn wanted_numbers() -> Vec<Event> {
+    [
+        one_each(RECOGNISE, &[0, 1, 2, 3, 4, 5, 6, 7]),
+        one_each(DEVICE_NEW, &[0, 17, SHORT_RECORD]),
+        one_each(DEVICE_RECEIVE, &[0, 1, 2, 3, 4, 5, 6, 7, 8, 9, 10, 11, 12, 13, 14, 15, 29, SHORT_RECORD]),
+        one_each(DEVICE_NEXT, &[0, 9, 14, 15, 29, SHORT_RECORD]),
+        one_each(DEVICE_INSTALL, &[0, 9, 16, 29, SHORT_RECORD]),
+        one_each(GATEWAY_START, &[0, 17, 18, 19, SHORT_RECORD]),
+        one_each(GATEWAY_RECEIVE, &[0, 1, 2, 3, 4, 5, 6, 7, 8, 9, 14, 15, 29, SHORT_RECORD]),
+        one_each(GATEWAY_NEXT, &[0, 9, 14, 15, 29, SHORT_RECORD]),
+    ]
+    .concat()
+}
+
+/// Each message in each phase: handled, or without use.
+fn wanted_messages() -> Vec<Event> {
+    let device_phases = [IDLE, LOADING, LOADED, ACKED, FAILED, INSTALLING, REPORTING];
+    let gateway_phases = [ASK, OFFER, SERVE, RUN, ENDED];
+    let mut events = Vec::new();
+    for (code, uses) in [
+        (QUERY, &device_phases[..]),
+        (ANNOUNCE, &device_phases),
+        (FRAGMENT, &[LOADING]),
+        (DOWNLOAD_RESULT, &[LOADED, FAILED]),
+        (EXECUTE, &device_phases),
+        (UPGRADE_RESULT, &[REPORTING]),
+    ] {
+        events.extend(by_use([DEVICE_HANDLED, DEVICE_NO_USE], code, &device_phases, uses));
+    }
+    for (code, uses) in [
+        (QUERY, &[ASK][..]),
+        (ANNOUNCE, &[OFFER]),
+        (FRAGMENT, &gateway_phases),
+        (DOWNLOAD_RESULT, &gateway_phases),
+        (EXECUTE, &[RUN]),
+        (UPGRADE_RESULT, &gateway_phases),
+    ] {
+        events.extend(by_use([GATEWAY_HANDLED, GATEWAY_NO_USE], code, &gateway_phases, uses));
+    }
+    events
+}
+
+fn by_use([handled, no_use]: [&'static str; 2], code: u8, phases: &[u8], uses: &[u8]) -> Vec<Event> {
+    let kind = |phase| if uses.contains(phase) { handled } else { no_use };
+    phases.iter().map(|phase| (kind(phase), code, *phase)).collect()
+}
+
+fn wanted_steps() -> Vec<Event> {
+    [
+        with_each(DEVICE_STEP, IDLE, &[IDLE, LOADING]),
+        with_each(DEVICE_STEP, LOADING, &[IDLE, LOADING, LOADED, FAILED]),
+        with_each(DEVICE_STEP, LOADED, &[IDLE, LOADING, LOADED, ACKED, INSTALLING]),
+        with_each(DEVICE_STEP, ACKED, &[LOADING, ACKED, INSTALLING]),
+        with_each(DEVICE_STEP, FAILED, &[IDLE, LOADING, FAILED]),
+        with_each(DEVICE_STEP, INSTALLING, &[INSTALLING, REPORTING]),
+        with_each(DEVICE_STEP, REPORTING, &[IDLE, REPORTING]),
+        with_each(GATEWAY_STEP, ASK, &[ASK, OFFER, ENDED]),
+        with_each(GATEWAY_STEP, OFFER, &[OFFER, SERVE, ENDED]),
+        with_each(GATEWAY_STEP, SERVE, &[SERVE, RUN, ENDED]),
+        with_each(GATEWAY_STEP, RUN, &[RUN, ENDED]),
+        with_each(GATEWAY_STEP, ENDED, &[ENDED]),
+        one_each(GATEWAY_ENDING, &[0, 1, 2, 3, 4, 5]),
+        one_each(RESUMED, &[LOADING, LOADED, ACKED]),
+        one_each(STARTED, &[IDLE, LOADING, LOADED, ACKED, FAILED]),
+        with_each(LOADED_WITH, 0, &[0, 1]),
+        with_each(LOADED_WITH, 1, &[0, 1]),
+        with_each(FAILED_WITH, 1, &[0, 1]),
+    ]
+    .concat()
+}
+
+/// Every reply and message, by code and first data byte; a version's first byte says nothing and is not wanted.
+fn wanted_sendings() -> Vec<Event> {
+    [
+        with_each(DEVICE_REPLY, QUERY, &[0x00]),
+        with_each(DEVICE_REPLY, ANNOUNCE, &ANNOUNCE_ANSWERS),
+        with_each(DEVICE_REPLY, EXECUTE, &[0x00, 0x01, 0x04]),
+        with_each(DEVICE_MESSAGE, DOWNLOAD_RESULT, &[0x00, 0x07]),
+        with_each(DEVICE_MESSAGE, UPGRADE_RESULT, &UPGRADE_RESULTS),
+        with_each(GATEWAY_REPLY, FRAGMENT, &[0x00, 0x80, 0x81]),
+        with_each(GATEWAY_REPLY, DOWNLOAD_RESULT, &[0x00, 0x80]),
+        with_each(GATEWAY_REPLY, UPGRADE_RESULT, &[0x00, 0x80]),
+        with_each(GATEWAY_MESSAGE, QUERY, &[0x00]),
+        with_each(GATEWAY_MESSAGE, EXECUTE, &[0x00]),
+    ]
+    .concat()
+}
