@@ -7,8 +7,8 @@ use mathlib.Core.List.{List}
 use borrow.Author.Tests.{eqb-true, ltb-false}
 use Rattle.basis.specs.Choice.{pick, refusal}
 use Rattle.basis.proofs.Choosing.{by-cases, refusal-among}
-use Rattle.message.specs.Messages.{DeviceMessage, query, announce, fragment, downloadReply, execute, resultReply, GatewayMessage}
-use Rattle.message.specs.Codec.{Table, Reading, found, refused, toDevice, toGateway, readOf, said}
+use Rattle.message.specs.Messages.{DeviceMessage, query, announce, fragment, downloadReply, execute, resultReply, GatewayMessage, Table, Reading, found, refused, toDevice, toGateway}
+use Rattle.codec.specs.Codec.{readOf, said}
 use Rattle.message.specs.Recognition.{recognition}
 use Rattle.device_record.specs.declared.Device.{Device}
 use Rattle.device_record.specs.Record.{loading}

@@ -11,10 +11,10 @@ use denote.Enum.Declared.{tagOf}
 use Rattle.message.specs.declared.ToDevice
 use Rattle.message.specs.declared.ToDevice.{ToDevice}
 use Rattle.message.proofs.ToDevice.{the-type}
-use Rattle.message.specs.Messages.{deviceCode}
-use Rattle.message.specs.Codec.{toDevice, readOf}
+use Rattle.message.specs.Messages.{deviceCode, toDevice}
+use Rattle.codec.specs.Codec.{readOf}
 use Rattle.message.specs.Coded.{deviceMessage}
-use Rattle.message.proofs.RoundTrip.{device-round-trip}
+use Rattle.codec.proofs.RoundTrip.{device-round-trip}
 use Rattle.device_record.specs.declared.Device.{Device}
 use Rattle.device.specs.declared.Answer.{Answer}
 use Rattle.device.specs.Rules.{refuse, handle, onQuery, onAnnounce, onFragment, onDownloadReply, onExecute, onResultReply}

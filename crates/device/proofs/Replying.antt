@@ -13,14 +13,14 @@ use Rattle.basis.proofs.Choosing.{by-cases, and-both, one-of-every}
 use Rattle.bitmap.specs.Bitmap.{lowestMissing}
 use Rattle.message.specs.Limits.{deviceRoom, isWord}
 use Rattle.message.specs.Version.{goodVersion}
-use Rattle.message.specs.Messages.{GatewayMessage, queryReply, announceReply, executeReply, gatewayValid}
-use Rattle.message.specs.Codec.{Reading, found, toGateway, Sent, writeOf, said}
+use Rattle.message.specs.Messages.{GatewayMessage, queryReply, announceReply, executeReply, gatewayValid, Reading, found, toGateway}
+use Rattle.codec.specs.Codec.{Sent, writeOf, said}
 use Rattle.message.specs.Coded.{gatewayMessage}
 use Rattle.message.specs.declared.Fields.{Fields}
 use Rattle.message.specs.declared.ToGateway
 use Rattle.message.specs.declared.ToGateway.{ToGateway}
 use Rattle.message.proofs.ToGateway.{the-type}
-use Rattle.message.proofs.RoundTrip.{gateway-round-trip}
+use Rattle.codec.proofs.RoundTrip.{gateway-round-trip}
 use Rattle.device_record.specs.declared.Device.{Device}
 use Rattle.device.specs.declared.Said.{Said}
 use Rattle.device_record.specs.Record.{loading, conditionOk, recordOk}

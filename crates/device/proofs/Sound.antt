@@ -15,8 +15,7 @@ use Rattle.basis.specs.Bytes.{patched}
 use Rattle.basis.proofs.Choosing.{by-cases, and-left, and-right, and-both}
 use Rattle.message.specs.Limits.{sizeOk, totalOk, isWord}
 use Rattle.message.specs.Version.{goodVersion}
-use Rattle.message.specs.Messages.{fragment, installCode, deviceValid}
-use Rattle.message.specs.Codec.{found}
+use Rattle.message.specs.Messages.{fragment, installCode, deviceValid, found}
 use Rattle.message.specs.declared.Fields.{Fields}
 use Rattle.device_record.specs.declared.Device.{Device}
 use Rattle.device_record.specs.Record.{idle, loading, loaded, acked, failed, installing, reporting, fresh, inPhase, begun, ended, downloadOk, recordOk, roomOk, mapBytes}

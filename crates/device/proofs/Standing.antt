@@ -7,8 +7,7 @@ use mathlib.Core.List.{List}
 use lib.ListN.{length, take, drop}
 use lib.Seq.{take-take}
 use Rattle.basis.specs.Bytes.{patched}
-use Rattle.message.specs.Messages.{fragment}
-use Rattle.message.specs.Codec.{found}
+use Rattle.message.specs.Messages.{fragment, found}
 use Rattle.message.specs.declared.Fields.{Fields}
 use Rattle.device_record.specs.declared.Device.{Device}
 use Rattle.device_record.specs.Record.{idle, loading, failed}

@@ -14,10 +14,10 @@ use Rattle.basis.specs.Bytes.{same, over, patched}
 use Rattle.basis.proofs.Choosing.{by-cases, pick-no, and-left, and-right, or-either, passed}
 use Rattle.basis.proofs.Lists.{same-true, take-over}
 use Rattle.message.specs.Limits.{deviceRoom, isWord}
-use Rattle.message.specs.Messages.{DeviceMessage, query, announce, fragment, downloadReply, execute, resultReply, GatewayMessage, queryReply, announceReply, fragmentRequest, downloadReport, executeReply, resultReport, installCode, deviceValid, fragmentOk}
-use Rattle.message.specs.Codec.{Reading, found, refused, toDevice, toGateway, sealed, frame, bytesOf, readOf, said}
+use Rattle.message.specs.Messages.{DeviceMessage, query, announce, fragment, downloadReply, execute, resultReply, GatewayMessage, queryReply, announceReply, fragmentRequest, downloadReport, executeReply, resultReport, installCode, deviceValid, fragmentOk, Reading, found, refused, toDevice, toGateway}
+use Rattle.codec.specs.Codec.{sealed, frame, bytesOf, readOf, said}
 use Rattle.message.specs.declared.Fields.{Fields}
-use Rattle.message.proofs.Heard.{read}
+use Rattle.codec.proofs.Heard.{read}
 use Rattle.device_decisions.proofs.Accepted.{Accepted, accepted-facts}
 use Rattle.device_record.specs.declared.Device.{Device}
 use Rattle.device_record.specs.Record.{idle, loading, loaded, acked, failed, installing, reporting, holding, inPhase, begun, grown, ended, recordOk, roomOk, mapBytes}
@@ -60,7 +60,7 @@ receiveOut d image map reply supported pcp condition message = outOf (receiveOf 
 
 abbrev pub askOut : Device → (image map reply : List ℕ) → Out
 askOut d image map reply =
-    let s : Rattle.message.specs.Codec.Sent = nextMessageOf d image map reply in
+    let s : Rattle.codec.specs.Codec.Sent = nextMessageOf d image map reply in
     out (s .number) d image map (aired (s .length) (s .buffer))
 
 abbrev pub installOut : Device → (image map : List ℕ) (code : ℕ) → Out
@@ -307,7 +307,7 @@ module _ (d : Device) (image map : List ℕ) where
   module _ (reply : List ℕ) where
     S : Reading GatewayMessage → Type 0
     S r =
-        let s : Rattle.message.specs.Codec.Sent = said toGateway r reply in
+        let s : Rattle.codec.specs.Codec.Sent = said toGateway r reply in
         Does d image map asks (out (s .number) d image map (aired (s .length) (s .buffer)))
 
     asked : (m : GatewayMessage) → Still d image map asks 0 (spoken m) → S (found m)

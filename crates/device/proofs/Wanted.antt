@@ -8,8 +8,7 @@ use borrow.Author.Tests.{eq-eqb, ne-eqb}
 use Rattle.basis.specs.Choice.{pick}
 use Rattle.basis.proofs.Choosing.{pick-yes, pick-no, pick-of}
 use Rattle.bitmap.specs.Bitmap.{lowestMissing}
-use Rattle.message.specs.Messages.{downloadReport}
-use Rattle.message.specs.Codec.{found, refused}
+use Rattle.message.specs.Messages.{downloadReport, found, refused}
 use Rattle.message.specs.Coded.{gatewayMessage}
 use Rattle.message.specs.declared.ToGateway
 use Rattle.message.specs.declared.ToGateway.{ToGateway}

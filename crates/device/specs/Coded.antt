@@ -3,8 +3,8 @@ use Prim.Native.Nat.{ℕ}
 use mathlib.Core.Path.{_≡_}
 use mathlib.Core.Bool.{true}
 use mathlib.Core.List.{List}
-use Rattle.message.specs.Messages.{GatewayMessage, gatewayValid}
-use Rattle.message.specs.Codec.{Reading, found, refused, Sent}
+use Rattle.message.specs.Messages.{GatewayMessage, gatewayValid, Reading, found, refused}
+use Rattle.codec.specs.Codec.{Sent}
 use Rattle.message.specs.declared.ToDevice
 use Rattle.message.specs.declared.ToDevice.{ToDevice}
 use Rattle.device.specs.declared.Answer.{Answer}

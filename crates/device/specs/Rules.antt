@@ -7,8 +7,8 @@ use lib.ListN.{length}
 use Rattle.basis.specs.Choice.{pick, refusal}
 use Rattle.basis.specs.Bytes.{over, patched}
 use Rattle.message.specs.Limits.{deviceRoom}
-use Rattle.message.specs.Messages.{DeviceMessage, query, announce, fragment, downloadReply, execute, resultReply, GatewayMessage, queryReply, announceReply, fragmentRequest, downloadReport, executeReply, resultReport, installCode}
-use Rattle.message.specs.Codec.{Reading, found, refused, Sent, toDevice, toGateway, bytesOf, readOf, said}
+use Rattle.message.specs.Messages.{DeviceMessage, query, announce, fragment, downloadReply, execute, resultReply, GatewayMessage, queryReply, announceReply, fragmentRequest, downloadReport, executeReply, resultReport, installCode, Reading, found, refused, toDevice, toGateway}
+use Rattle.codec.specs.Codec.{Sent, bytesOf, readOf, said}
 use Rattle.message.specs.declared.Fields.{Fields}
 use Rattle.device_record.specs.declared.Device.{Device}
 use Rattle.device_record.specs.Record.{idle, loading, loaded, acked, failed, installing, reporting, conditionOk, inPhase, begun, grown, ended, recordOk, roomOk, mapBytes}

@@ -43,7 +43,7 @@ pub(crate) fn handle(
             let version = message::version_at(message, 8);
             on_announce(device, condition, reading, version, image, map, reply)
         }
-        21 => on_fragment(device, reading, message::fragment_data(message), image, map),
+        21 => on_fragment(device, reading, codec::fragment_data(message), image, map),
         22 => on_download_reply(device, reading),
         23 => on_execute(device, condition, reading, reply),
         _ => on_result_reply(device, reading),

@@ -49,7 +49,7 @@ pub fn receive(
     if number != 0 {
         return replies::refused(device, number);
     }
-    let reading = message::read_to_device(supported, pcp, message);
+    let reading = codec::read_to_device(supported, pcp, message);
     dispatch::handle(device, condition, reading, message, image, map, reply)
 }
 

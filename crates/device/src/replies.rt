@@ -13,8 +13,8 @@ ghost use mathlib.Core.Bool.{true};
 ghost use Prim.Native.Nat.{ℕ, _≤_};
 ghost use lib.ListN.{length};
 ghost use Rattle.message.specs.Limits.{deviceRoom};
-ghost use Rattle.message.specs.Messages.{GatewayMessage};
-ghost use Rattle.message.specs.Codec.{found, toGateway, said};
+ghost use Rattle.message.specs.Messages.{GatewayMessage, found, toGateway};
+ghost use Rattle.codec.specs.Codec.{said};
 ghost use Rattle.message.specs.Coded.{deviceMessage, gatewayMessage};
 ghost use Rattle.device.specs.Rules.{refuse, moved, replied, handle};
 ghost use Rattle.device_record.specs.Record.{recordOk};
@@ -61,7 +61,7 @@ pub(crate) fn say(message: ToGateway, version: [u8; 16], reply: &mut [u8]) -> Sa
     if let ToGateway::Refused(number) = message {
         return Said { number, length: 0 };
     }
-    let written = message::write_to_gateway(message, version, reply);
+    let written = codec::write_to_gateway(message, version, reply);
     Said {
         number: written.number,
         length: written.length,

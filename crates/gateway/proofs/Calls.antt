@@ -9,13 +9,14 @@ use borrow.Author.Tests.{leb-true, eqb-true, eq-eqb, ne-eqb}
 use Rattle.basis.specs.Choice.{refusal}
 use Rattle.basis.specs.Bytes.{part}
 use Rattle.basis.proofs.Choosing.{pick-yes, pick-no, by-cases, passed}
-use Rattle.message.proofs.RoundTrip.{gateway-round-trip}
+use Rattle.codec.proofs.RoundTrip.{gateway-round-trip}
 use Rattle.message.specs.declared.ToGateway
 use Rattle.message.specs.declared.ToGateway.{ToGateway}
 use Rattle.message.specs.Limits.{gatewayRoom}
-use Rattle.message.specs.Messages.{DeviceMessage, query, announce, execute, deviceValid, gatewayCode}
-use Rattle.message.specs.Codec.{Reading, found, refused, Sent, toDevice, toGateway, readOf, said}
-use Rattle.message.specs.Coded.{gatewayMessage, versionPlace}
+use Rattle.message.specs.Messages.{DeviceMessage, query, announce, execute, deviceValid, gatewayCode, Reading, found, refused, toDevice, toGateway}
+use Rattle.codec.specs.Codec.{Sent, readOf, said}
+use Rattle.message.specs.Coded.{gatewayMessage}
+use Rattle.codec.specs.Coded.{versionPlace}
 use Rattle.gateway.specs.declared.Gateway.{Gateway}
 use Rattle.gateway.specs.Record.{ask, offer, run, offered, recordOk}
 use Rattle.gateway.specs.Rules.{refuse, handle, receiveOf, wanted, nextMessageOf}

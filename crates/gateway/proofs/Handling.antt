@@ -15,8 +15,8 @@ use Rattle.basis.proofs.Choosing.{pick-yes, pick-no}
 use Rattle.message.proofs.ToGateway.{the-type}
 use Rattle.message.specs.declared.ToGateway
 use Rattle.message.specs.declared.ToGateway.{ToGateway}
-use Rattle.message.specs.Messages.{DeviceMessage, fragment, downloadReply, resultReply}
-use Rattle.message.specs.Codec.{found, refused, toDevice, said}
+use Rattle.message.specs.Messages.{DeviceMessage, fragment, downloadReply, resultReply, found, refused, toDevice}
+use Rattle.codec.specs.Codec.{said}
 use Rattle.message.specs.Coded.{gatewayMessage}
 use Rattle.gateway.specs.declared.Gateway.{Gateway}
 use Rattle.gateway.specs.Record.{ask, offer, serve, run, totalOf, fragmentOf, inPhase, endedWith}

@@ -12,13 +12,13 @@ use borrow.Author.Tests.{le-leb, lt-ltb, leb-true, eq-eqb, ne-eqb}
 use Rattle.basis.specs.Choice.{oneOf}
 use Rattle.basis.proofs.Choosing.{pick-yes, pick-no, and-left, and-right, and-both}
 use Rattle.message.proofs.ToDevice.{the-type}
-use Rattle.message.proofs.RoundTrip.{device-round-trip}
+use Rattle.codec.proofs.RoundTrip.{device-round-trip}
 use Rattle.message.specs.declared.ToDevice
 use Rattle.message.specs.declared.ToDevice.{ToDevice}
 use Rattle.message.specs.Limits.{sizeMin, sizeMax, sizeOk, totalMax, totalOk, isWord, gatewayRoom}
 use Rattle.message.specs.Version.{goodVersion}
-use Rattle.message.specs.Messages.{announce, fragment, fragmentOk, deviceValid}
-use Rattle.message.specs.Codec.{Sent, toDevice, writeOf, said}
+use Rattle.message.specs.Messages.{announce, fragment, fragmentOk, deviceValid, toDevice}
+use Rattle.codec.specs.Codec.{Sent, writeOf, said}
 use Rattle.message.specs.Coded.{deviceMessage}
 use Rattle.gateway.specs.declared.Gateway.{Gateway}
 use Rattle.gateway.specs.Record.{totalOf, lengthOk, fragmentOf, offered, recordOk}

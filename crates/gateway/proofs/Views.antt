@@ -12,8 +12,8 @@ use borrow.Author.Tests.{eqb-true, ltb-true}
 use Rattle.basis.specs.Bytes.{same, over}
 use Rattle.basis.proofs.Choosing.{by-cases, and-left, and-right, or-either}
 use Rattle.basis.proofs.Lists.{same-true}
-use Rattle.message.specs.Messages.{DeviceMessage, query, announce, fragment, downloadReply, execute, resultReply, GatewayMessage, queryReply, announceReply, fragmentRequest, downloadReport, executeReply, resultReport}
-use Rattle.message.specs.Codec.{Reading, found, refused, toDevice, toGateway, bytesOf, readOf, said}
+use Rattle.message.specs.Messages.{DeviceMessage, query, announce, fragment, downloadReply, execute, resultReply, GatewayMessage, queryReply, announceReply, fragmentRequest, downloadReport, executeReply, resultReport, Reading, found, refused, toDevice, toGateway}
+use Rattle.codec.specs.Codec.{bytesOf, readOf, said}
 use Rattle.gateway.specs.declared.Gateway.{Gateway}
 use Rattle.gateway.specs.Record.{ask, offer, serve, run, totalOf, fragmentOf, offered, inPhase, endedWith}
 use Rattle.gateway.specs.Rules.{After, asked, serving, fragmentReply, refuse, onQueryReply, onAnnounceReply, onFragmentRequest, onDownloadReport, onExecuteReply, onResultReport, handle, receiveOf, wanted, nextMessageOf}

@@ -1,7 +1,7 @@
 -- What the two calls answer, in the words of the rules: an answer is a struct, and the buffer that it left stands beside it. Assumes nothing.
 use Prim.Native.Nat.{ℕ}
 use mathlib.Core.List.{List}
-use Rattle.message.specs.Codec.{Sent}
+use Rattle.codec.specs.Codec.{Sent}
 use Rattle.gateway.specs.declared.Answer.{Answer}
 use Rattle.gateway.specs.declared.Said.{Said}
 use Rattle.gateway.specs.Rules.{After}

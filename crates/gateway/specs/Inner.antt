@@ -6,10 +6,10 @@ use mathlib.Core.Bool.{true}
 use mathlib.Core.List.{List}
 use lib.ListN.{length}
 use Rattle.message.specs.Limits.{gatewayRoom}
-use Rattle.message.specs.Messages.{DeviceMessage, deviceValid}
+use Rattle.message.specs.Messages.{DeviceMessage, deviceValid, Reading, found, refused}
 use Rattle.message.specs.declared.ToGateway
 use Rattle.message.specs.declared.ToGateway.{ToGateway}
-use Rattle.message.specs.Codec.{Reading, found, refused, Sent}
+use Rattle.codec.specs.Codec.{Sent}
 use Rattle.gateway.specs.declared.Gateway.{Gateway}
 use Rattle.gateway.specs.Record.{recordOk}
 use Rattle.gateway.specs.Rules.{After}

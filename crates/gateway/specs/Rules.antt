@@ -7,8 +7,8 @@ use lib.ListN.{length}
 use Rattle.basis.specs.Choice.{pick, refusal}
 use Rattle.basis.specs.Bytes.{same, over}
 use Rattle.message.specs.Limits.{gatewayRoom}
-use Rattle.message.specs.Messages.{DeviceMessage, query, announce, fragment, downloadReply, execute, resultReply, GatewayMessage, queryReply, announceReply, fragmentRequest, downloadReport, executeReply, resultReport}
-use Rattle.message.specs.Codec.{Reading, found, refused, Sent, toDevice, toGateway, bytesOf, readOf, said}
+use Rattle.message.specs.Messages.{DeviceMessage, query, announce, fragment, downloadReply, execute, resultReply, GatewayMessage, queryReply, announceReply, fragmentRequest, downloadReport, executeReply, resultReport, Reading, found, refused, toDevice, toGateway}
+use Rattle.codec.specs.Codec.{Sent, bytesOf, readOf, said}
 use Rattle.gateway.specs.declared.Gateway.{Gateway}
 use Rattle.gateway.specs.Record.{ask, offer, serve, run, ended, totalOf, fragmentOf, offered, inPhase, endedWith, recordOk}
 

@@ -9,7 +9,8 @@ ghost use mathlib.Core.List.{List, []};
 ghost use Prim.Native.Nat.{ℕ, _≤_};
 ghost use lib.ListN.{length};
 ghost use Rattle.message.specs.Limits.{gatewayRoom};
-ghost use Rattle.message.specs.Codec.{toDevice, said};
+ghost use Rattle.message.specs.Messages.{toDevice};
+ghost use Rattle.codec.specs.Codec.{said};
 ghost use Rattle.message.specs.Coded.{deviceMessage};
 ghost use Rattle.gateway.specs.Rules.{refuse, moved};
 ghost use Rattle.gateway.specs.Coded.{after, saidInto};
@@ -57,7 +58,7 @@ pub(crate) fn say(message: ToDevice, version: [u8; 16], content: &[u8], reply: &
     if let ToDevice::Refused(number) = message {
         return Said { number, length: 0 };
     }
-    let written = message::write_to_device(message, version, content, reply);
+    let written = codec::write_to_device(message, version, content, reply);
     Said {
         number: written.number,
         length: written.length,

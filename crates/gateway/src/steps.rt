@@ -85,8 +85,8 @@ pub fn receive(
     if number != 0 {
         return refused(gateway, number);
     }
-    let reading = message::read_to_gateway(supported, pcp, message);
-    let version = message::version_at(message, message::version_place(reading));
+    let reading = codec::read_to_gateway(supported, pcp, message);
+    let version = message::version_at(message, codec::version_place(reading));
     let code = basis::byte_at(message, 3);
     handle(gateway, code, reading, version, content, reply)
 }

@@ -11,10 +11,10 @@ use Rattle.basis.specs.Choice.{pick, refusal}
 use Rattle.basis.specs.Bytes.{wordBytes}
 use Rattle.basis.proofs.Choosing.{by-cases, passed}
 use Rattle.message.specs.Limits.{sizeMax, deviceRoom, gatewayRoom}
-use Rattle.message.specs.Messages.{DeviceMessage, query, announce, fragment, downloadReply, execute, resultReply, deviceCode, deviceData, GatewayMessage, queryReply, announceReply, fragmentRequest, downloadReport, executeReply, resultReport, gatewayCode, gatewayData}
-use Rattle.message.specs.Codec.{Table, Reading, found, refused, toDevice, toGateway, bytesOf, readOf, said}
+use Rattle.message.specs.Messages.{DeviceMessage, query, announce, fragment, downloadReply, execute, resultReply, deviceCode, deviceData, GatewayMessage, queryReply, announceReply, fragmentRequest, downloadReport, executeReply, resultReport, gatewayCode, gatewayData, Table, Reading, found, refused, toDevice, toGateway}
+use Rattle.codec.specs.Codec.{bytesOf, readOf, said}
 use Rattle.message.specs.declared.Fields.{Fields}
-use Rattle.message.proofs.Frames.{length-frame}
+use Rattle.codec.proofs.Frames.{length-frame}
 use Rattle.device_record.specs.declared.Device.{Device}
 use Rattle.device.specs.Rules as device
 use Rattle.gateway.specs.declared.Gateway.{Gateway}

@@ -8,9 +8,9 @@ use lib.Dec.{eqb}
 use lib.ListN.{length}
 use Rattle.basis.specs.Choice.{pick, refusal}
 use Rattle.basis.proofs.Choosing.{by-cases, refusal-among}
-use Rattle.message.specs.Messages.{DeviceMessage, query, announce, fragment, downloadReply, execute, resultReply, GatewayMessage, queryReply, announceReply, fragmentRequest, downloadReport, executeReply, resultReport}
-use Rattle.message.specs.Codec.{Table, Reading, found, refused, Sent, toDevice, toGateway, readOf, said}
-use Rattle.message.proofs.RoundTrip.{RoundTrip, device-round-trip, gateway-round-trip}
+use Rattle.message.specs.Messages.{DeviceMessage, query, announce, fragment, downloadReply, execute, resultReply, GatewayMessage, queryReply, announceReply, fragmentRequest, downloadReport, executeReply, resultReport, Table, Reading, found, refused, toDevice, toGateway}
+use Rattle.codec.specs.Codec.{Sent, readOf, said}
+use Rattle.codec.proofs.RoundTrip.{RoundTrip, device-round-trip, gateway-round-trip}
 use Rattle.device_record.specs.declared.Device.{Device}
 use Rattle.device.specs.Rules as device
 use Rattle.gateway.specs.declared.Gateway.{Gateway}

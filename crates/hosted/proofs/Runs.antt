@@ -9,7 +9,7 @@ use borrow.Author.Tests.{le-leb}
 use Rattle.basis.specs.Choice.{pick}
 use Rattle.basis.specs.Bytes.{over}
 use Rattle.basis.proofs.Choosing.{by-cases, pick-yes}
-use Rattle.message.specs.Codec.{Sent}
+use Rattle.codec.specs.Codec.{Sent}
 use Rattle.device_record.specs.declared.Device.{Device}
 use Rattle.device.specs.Rules as device
 use Rattle.gateway.specs.declared.Gateway.{Gateway}

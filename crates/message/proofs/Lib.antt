@@ -1,11 +1,3 @@
 pub mod Texts
 pub mod Allowed
-pub mod Frames
 pub mod Tables
-pub mod RoundTrip
-pub mod Published
-pub mod Heard
-pub mod Places
-pub mod Laying
-pub mod Reading
-pub mod Writing

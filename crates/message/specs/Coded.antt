@@ -1,13 +1,12 @@
 -- What the code's enums mean: an enum holds numbers alone, and version text and fragment data stand beside it. Assumes nothing.
 use Prim.Native.Nat.{ℕ}
+use mathlib.Core.Bool.{Bool, false}
 use mathlib.Core.List.{List}
-use Rattle.message.specs.declared.Written.{Written}
 use Rattle.message.specs.declared.ToDevice
 use Rattle.message.specs.declared.ToDevice.{ToDevice}
 use Rattle.message.specs.declared.ToGateway
 use Rattle.message.specs.declared.ToGateway.{ToGateway}
-use Rattle.message.specs.Messages.{DeviceMessage, GatewayMessage}
-use Rattle.message.specs.Codec.{Reading, found, refused, Sent}
+use Rattle.message.specs.Messages.{DeviceMessage, GatewayMessage, Table, Reading, found, refused}
 
 abbrev pub deviceMessage : ToDevice → (version bytes : List ℕ) → Reading DeviceMessage
 deviceMessage (ToDevice.Refused number) version bytes = refused number
@@ -28,17 +27,8 @@ gatewayMessage (ToGateway.DownloadReport result) version = found (GatewayMessage
 gatewayMessage (ToGateway.ExecuteReply result) version = found (GatewayMessage.executeReply result)
 gatewayMessage (ToGateway.ResultReport result) version = found (GatewayMessage.resultReport result version)
 
--- where the version text stands in a message to the gateway: 9 where a result stands before it, else 8; a message without version text
--- gives 8, which nobody reads
-abbrev pub versionPlace : ToGateway → ℕ
-versionPlace (ToGateway.Refused number) = 8
-versionPlace (ToGateway.QueryReply result) = 9
-versionPlace (ToGateway.AnnounceReply result) = 8
-versionPlace (ToGateway.FragmentRequest index) = 8
-versionPlace (ToGateway.DownloadReport result) = 8
-versionPlace (ToGateway.ExecuteReply result) = 8
-versionPlace (ToGateway.ResultReport result) = 9
-
--- what a writer answered, with the buffer that it left
-abbrev pub sent : Written → List ℕ → Sent
-sent w buffer = record { number = w .number; length = w .length; buffer = buffer }
+-- the fields of a message are allowed; a refusal is no message
+module _ (t : Table) where
+  abbrev pub validOf : Reading (t .Message) → Bool
+  validOf (found m) = t .valid m
+  validOf (refused n) = false

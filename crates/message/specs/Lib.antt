@@ -2,6 +2,4 @@ pub mod Limits
 pub mod Version
 pub mod Recognition
 pub mod Messages
-pub mod Codec
 pub mod Coded
-pub mod Parts

@@ -6,7 +6,7 @@ use lib.Dec.{eqb, leb}
 use lib.ListN.{length, drop, getD}
 use Rattle.basis.specs.Choice.{pick, oneOf}
 use Rattle.basis.specs.Bytes.{wordAt, wordBytes, part}
-use Rattle.message.specs.Limits.{sizeMax, sizeOk, totalOk, isWord}
+use Rattle.message.specs.Limits.{sizeMax, sizeOk, totalOk, isWord, deviceRoom, gatewayRoom}
 use Rattle.message.specs.Version.{goodVersion}
 use Rattle.message.specs.declared.Fields.{Fields}
 
@@ -107,3 +107,25 @@ gatewayFields code d =
     (pick (eqb code 22) (downloadReport (getD d 0 0))
     (pick (eqb code 23) (executeReply (getD d 0 0))
     (resultReport (getD d 0 0) (part d 1 16))))))
+
+-- ---- a column, and a message or none
+
+-- 01's table for one receiver, and the buffer that its sender needs
+pub record Table : Type 1 where
+  pub Message : Type 0
+  pub code : Message → ℕ
+  pub content : Message → List ℕ
+  pub valid : Message → Bool
+  pub fields : ℕ → List ℕ → Message
+  pub room : ℕ
+
+abbrev pub toDevice : Table
+toDevice = record { Message = DeviceMessage; code = deviceCode; content = deviceData; valid = deviceValid; fields = deviceFields; room = gatewayRoom }
+
+abbrev pub toGateway : Table
+toGateway = record { Message = GatewayMessage; code = gatewayCode; content = gatewayData; valid = gatewayValid; fields = gatewayFields; room = deviceRoom }
+
+-- a message, or the number of the refusal
+pub data Reading (M : Type 0) : Type 0 where
+  found : M → Reading M
+  refused : ℕ → Reading M

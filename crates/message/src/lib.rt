@@ -1,25 +1,18 @@
-// PCP messages: recognition, and the twelve messages read and written (01, "The message and its
-// check", "Recognising a message").
-mod parts;
+// PCP messages: recognition, version text, and the twelve messages with what 01's table allows in them
+// (01, "Recognising a message").
 mod ranges;
-mod read;
 mod recognition;
 mod version;
-mod write;
 
+pub use ranges::device_valid;
+pub use ranges::gateway_valid;
 pub use ranges::install_code;
 pub use ranges::size_ok;
 pub use ranges::total_ok;
-pub use read::fragment_data;
-pub use read::read_to_device;
-pub use read::read_to_gateway;
-pub use read::version_place;
 pub use recognition::recognise;
 pub use version::good_version;
 pub use version::same_version;
 pub use version::version_at;
-pub use write::write_to_device;
-pub use write::write_to_gateway;
 
 // The four fields of an announcement, which name a package: 01's version, size, total and code.
 pub struct Fields {
@@ -69,10 +62,4 @@ pub enum ToGateway {
 impl ToGateway {
     // The least buffer of the device, which sends these.
     pub const ROOM: usize = 26;
-}
-
-// What a writer answers: 0 and the length of the message, or the number of the refusal and 0.
-pub struct Written {
-    pub number: u8,
-    pub length: usize,
 }

@@ -5,10 +5,8 @@ use crate::ToGateway;
 use crate::version::good_version;
 ghost use mathlib.Core.Path.{_≡_};
 ghost use Rattle.message.specs.Limits.{sizeOk, totalOk};
-ghost use Rattle.message.specs.Messages.{DeviceMessage, GatewayMessage, deviceValid, gatewayValid, fragmentOk, installCode};
-ghost use Rattle.message.specs.Codec.{toDevice, toGateway};
-ghost use Rattle.message.specs.Coded.{deviceMessage, gatewayMessage};
-ghost use Rattle.message.specs.Parts.{validOf};
+ghost use Rattle.message.specs.Messages.{DeviceMessage, GatewayMessage, deviceValid, gatewayValid, fragmentOk, installCode, toDevice, toGateway};
+ghost use Rattle.message.specs.Coded.{deviceMessage, gatewayMessage, validOf};
 
 // A fragment size.
 pub fn size_ok(size: u16) -> bool
@@ -73,8 +71,8 @@ fn fragment_ok(result: u8, content: &[u8]) -> bool
     }
 }
 
-// The fields that the table allows; a refusal is no message.
-pub(crate) fn device_valid(message: ToDevice, version: [u8; 16], content: &[u8]) -> bool
+// The fields of a message toward the device are those that the table allows; a refusal is no message.
+pub fn device_valid(message: ToDevice, version: [u8; 16], content: &[u8]) -> bool
     ensures { λ r. ⌜ r ≡ validOf toDevice (deviceMessage message version (now (content .entry))) ⌝ }
 {
     match message {
@@ -92,7 +90,8 @@ pub(crate) fn device_valid(message: ToDevice, version: [u8; 16], content: &[u8])
     }
 }
 
-pub(crate) fn gateway_valid(message: ToGateway, version: [u8; 16]) -> bool
+// The same of a message toward the gateway.
+pub fn gateway_valid(message: ToGateway, version: [u8; 16]) -> bool
     ensures { λ r. ⌜ r ≡ validOf toGateway (gatewayMessage message version) ⌝ }
 {
     match message {

@@ -9,8 +9,9 @@ use Rattle.basis.specs.Choice.{pick}
 use Rattle.basis.specs.Bytes.{over}
 use Rattle.basis.proofs.Choosing.{by-cases}
 use Rattle.basis.proofs.Lists.{take-over}
-use Rattle.message.specs.Codec.{Table, Reading, found, bytesOf, readOf}
-use Rattle.message.proofs.Heard.{Told, heard-by}
+use Rattle.message.specs.Messages.{Table, Reading, found}
+use Rattle.codec.specs.Codec.{bytesOf, readOf}
+use Rattle.codec.proofs.Heard.{Told, heard-by}
 use Rattle.upgrade.specs.Calls.{aired}
 
 module _ (t : Table) where

@@ -12,10 +12,10 @@ use Rattle.basis.specs.Bytes.{over}
 use Rattle.basis.proofs.Choosing.{pick-no}
 use Rattle.basis.proofs.Lists.{take-over}
 use Rattle.message.specs.Limits.{deviceRoom, gatewayRoom}
-use Rattle.message.specs.Messages.{DeviceMessage, deviceValid, GatewayMessage, gatewayValid}
-use Rattle.message.specs.Codec.{Table, Reading, Sent, found, toDevice, toGateway, bytesOf, said}
-use Rattle.message.proofs.Frames.{length-frame}
-use Rattle.message.proofs.RoundTrip.{device-round-trip, gateway-round-trip}
+use Rattle.message.specs.Messages.{DeviceMessage, deviceValid, GatewayMessage, gatewayValid, Table, Reading, found, toDevice, toGateway}
+use Rattle.codec.specs.Codec.{Sent, bytesOf, said}
+use Rattle.codec.proofs.Frames.{length-frame}
+use Rattle.codec.proofs.RoundTrip.{device-round-trip, gateway-round-trip}
 use Rattle.device_record.specs.Record.{conditionOk}
 use Rattle.device_record.specs.Record as device
 use Rattle.device.specs.Rules as device-rules

@@ -12,8 +12,7 @@ use Rattle.basis.proofs.Lists.{same-swap}
 use Rattle.checksum.specs.Check.{checkOf}
 use Rattle.checksum.proofs.Register.{check-fits}
 use Rattle.message.specs.Limits.{isWord}
-use Rattle.message.specs.Messages.{GatewayMessage}
-use Rattle.message.specs.Codec.{Reading}
+use Rattle.message.specs.Messages.{GatewayMessage, Reading}
 use Rattle.device.specs.Rules.{passes}
 use Rattle.gateway.specs.declared.Gateway.{Gateway}
 use Rattle.gateway.specs.Record as gateway

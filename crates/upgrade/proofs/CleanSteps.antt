@@ -11,8 +11,8 @@ use Rattle.basis.specs.Bytes.{same, patched}
 use Rattle.basis.proofs.Choosing.{by-cases, and-both}
 use Rattle.basis.proofs.Lists.{same-refl}
 use Rattle.message.specs.Limits.{sizeMax, isWord}
-use Rattle.message.specs.Messages.{deviceValid, announce, fragment, downloadReply, execute, resultReply, fragmentOk, gatewayValid, announceReply, fragmentRequest, downloadReport, executeReply, resultReport, installCode}
-use Rattle.message.specs.Codec.{found, refused, toGateway, said}
+use Rattle.message.specs.Messages.{deviceValid, announce, fragment, downloadReply, execute, resultReply, fragmentOk, gatewayValid, announceReply, fragmentRequest, downloadReport, executeReply, resultReport, installCode, found, refused, toGateway}
+use Rattle.codec.specs.Codec.{said}
 use Rattle.message.specs.declared.Fields.{Fields}
 use Rattle.device_record.specs.declared.Device.{Device}
 use Rattle.device_record.specs.Record as device

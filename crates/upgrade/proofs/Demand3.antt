@@ -9,8 +9,8 @@ use lib.ListN.{length, take, drop, getD}
 use Rattle.basis.specs.Choice.{pick}
 use Rattle.checksum.specs.Check.{checkOf}
 use Rattle.message.specs.declared.Fields.{Fields}
-use Rattle.message.specs.Messages.{execute, executeReply, gatewayData}
-use Rattle.message.specs.Codec.{found, toDevice, toGateway, sealed, frame, bytesOf}
+use Rattle.message.specs.Messages.{execute, executeReply, gatewayData, found, toDevice, toGateway}
+use Rattle.codec.specs.Codec.{sealed, frame, bytesOf}
 use Rattle.device_record.specs.declared.Device.{Device}
 use Rattle.device_record.specs.Record.{idle, loading, loaded, acked, failed}
 use Rattle.device.proofs.Views

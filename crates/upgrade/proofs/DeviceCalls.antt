@@ -10,8 +10,8 @@ use borrow.Author.Tests.{eqb-false, leb-true, not-true}
 use Rattle.basis.specs.Bytes.{same}
 use Rattle.basis.proofs.Choosing.{by-cases, and-left, and-right}
 use Rattle.message.specs.declared.Fields.{Fields}
-use Rattle.message.specs.Messages.{announceReply}
-use Rattle.message.specs.Codec.{toDevice, readOf}
+use Rattle.message.specs.Messages.{announceReply, toDevice}
+use Rattle.codec.specs.Codec.{readOf}
 use Rattle.device_record.specs.declared.Device.{Device}
 use Rattle.device_record.specs.Record.{idle, loading, loaded, acked, failed, installing, holding, inPhase, begun, ended, mapBytes}
 use Rattle.bitmap.specs.Bitmap.{cleared}

@@ -9,8 +9,7 @@ use lib.ListN.{length, drop}
 use Rattle.basis.specs.Bytes.{same, patched}
 use Rattle.basis.proofs.Lists.{same-eq}
 use Rattle.message.specs.declared.Fields.{Fields}
-use Rattle.message.specs.Messages.{DeviceMessage, announce, fragment, execute, GatewayMessage, announceReply, executeReply}
-use Rattle.message.specs.Codec.{found, toDevice, toGateway}
+use Rattle.message.specs.Messages.{DeviceMessage, announce, fragment, execute, GatewayMessage, announceReply, executeReply, found, toDevice, toGateway}
 use Rattle.device_record.specs.declared.Device.{Device}
 use Rattle.device_record.specs.Record.{failed, installing, reporting, holding}
 use Rattle.device.proofs.Images.{drop-patched, place-within}

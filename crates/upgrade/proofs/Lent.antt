@@ -10,8 +10,8 @@ use lib.ListN.{length}
 use borrow.Author.Tests.{eqb-true, leb-true, lt-leb}
 use Rattle.basis.specs.Choice.{pick, refusal}
 use Rattle.basis.proofs.Choosing.{by-cases, pick-yes, pick-no, and-left, passes, refusal-among}
-use Rattle.message.specs.Messages.{GatewayMessage}
-use Rattle.message.specs.Codec.{Reading, found, refused, toGateway, said}
+use Rattle.message.specs.Messages.{GatewayMessage, Reading, found, refused, toGateway}
+use Rattle.codec.specs.Codec.{said}
 use Rattle.message.specs.declared.Fields.{Fields}
 use Rattle.device_record.specs.declared.Device.{Device}
 use Rattle.device_record.specs.Record.{idle, loading, installing, holding, inPhase, recordOk, roomOk}

@@ -13,8 +13,7 @@ use Rattle.basis.specs.Choice.{pick}
 use Rattle.basis.proofs.Choosing.{by-cases, pick-no, pick-yes}
 use Rattle.message.specs.declared.Fields.{Fields}
 use Rattle.message.specs.Version.{goodVersion}
-use Rattle.message.specs.Messages.{DeviceMessage, query, announce, fragment, downloadReply, execute, resultReply}
-use Rattle.message.specs.Codec.{Reading, found, refused}
+use Rattle.message.specs.Messages.{DeviceMessage, query, announce, fragment, downloadReply, execute, resultReply, Reading, found, refused}
 use Rattle.device_record.specs.declared.Made.{Made}
 use Rattle.device_record.specs.Record.{idle, loaded, acked, fresh, newOf}
 use Rattle.device.specs.Rules.{announceResult, resumes}

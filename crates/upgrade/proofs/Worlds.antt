@@ -2,9 +2,9 @@
 use Prim.Native.Nat.{ℕ}
 use native.Mathlib.Omega.{arith}
 use mathlib.Core.Path.{_≡_, _∙_}
-use Rattle.message.specs.Messages.{DeviceMessage, execute, GatewayMessage, executeReply}
-use Rattle.message.specs.Codec.{found, toDevice, toGateway, readOf}
-use Rattle.message.proofs.Heard.{device-told, gateway-told}
+use Rattle.message.specs.Messages.{DeviceMessage, execute, GatewayMessage, executeReply, found, toDevice, toGateway}
+use Rattle.codec.specs.Codec.{readOf}
+use Rattle.codec.proofs.Heard.{device-told, gateway-told}
 use Rattle.device.proofs.Views.{hears, installs, spoken}
 use Rattle.gateway.specs.Record as gateway
 use Rattle.upgrade.specs.Calls.{DeviceCall, given, asked, installed, GatewayCall, World, atDevice, atGateway, next, May}

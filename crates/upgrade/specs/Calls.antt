@@ -44,7 +44,7 @@ deviceSays e (given supported pcp condition message reply) =
     let a : device.After = deviceAnswer e supported pcp condition message reply in
     aired (a .length) (a .reply)
 deviceSays e (asked reply) =
-    let s : Rattle.message.specs.Codec.Sent = device.nextMessageOf (e .device) (e .image) (e .map) reply in
+    let s : Rattle.codec.specs.Codec.Sent = device.nextMessageOf (e .device) (e .image) (e .map) reply in
     aired (s .length) (s .buffer)
 deviceSays e (installed code) = []
 
@@ -64,7 +64,7 @@ module _ (content : List ℕ) where
       let a : gateway.After = gateway.receiveOf g content reply supported pcp message in
       aired (a .length) (a .reply)
   gatewaySays g (GatewayCall.asked reply) =
-      let s : Rattle.message.specs.Codec.Sent = gateway.nextMessageOf g content reply in
+      let s : Rattle.codec.specs.Codec.Sent = gateway.nextMessageOf g content reply in
       aired (s .length) (s .buffer)
 
 -- ---- both ends, and what each has put on the air

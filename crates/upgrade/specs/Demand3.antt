@@ -4,8 +4,8 @@ use mathlib.Core.Path.{_≡_}
 use mathlib.Core.Bool.{Bool, true}
 use mathlib.Core.List.{List, [], _∷_, _++_, List·Memᴰ}
 use lib.ListN.{length, take, drop}
-use Rattle.message.specs.Messages.{execute, executeReply}
-use Rattle.message.specs.Codec.{found, toDevice, toGateway, bytesOf, readOf}
+use Rattle.message.specs.Messages.{execute, executeReply, found, toDevice, toGateway}
+use Rattle.codec.specs.Codec.{bytesOf, readOf}
 use Rattle.device_record.specs.Record.{newOf, holding}
 use Rattle.device.specs.Rules as device
 use Rattle.gateway.specs.declared.Gateway.{Gateway}

@@ -6,8 +6,8 @@ use mathlib.Core.Bool.{_&&_, not}
 use mathlib.Core.List.{List, [], _∷_}
 use lib.Dec.{eqb}
 use Rattle.basis.specs.Choice.{pick}
-use Rattle.message.specs.Messages.{DeviceMessage, query, announce, fragment, downloadReply, execute, resultReply}
-use Rattle.message.specs.Codec.{Reading, found, refused, toDevice, readOf}
+use Rattle.message.specs.Messages.{DeviceMessage, query, announce, fragment, downloadReply, execute, resultReply, Reading, found, refused, toDevice}
+use Rattle.codec.specs.Codec.{readOf}
 use Rattle.message.specs.declared.Fields.{Fields}
 use Rattle.device.specs.Rules.{announceResult, resumes}
 use Rattle.upgrade.specs.Calls.{DeviceEnd, DeviceCall, given, asked, installed, deviceAnswer, deviceNext}

@@ -39,16 +39,16 @@ fn print_refused(number: u8) {
 
 fn show_to_device(label: &[u8], bytes: &[u8]) {
     io::write_all(STDOUT_FILENO, label);
-    let found = message::read_to_device(true, true, bytes);
+    let found = codec::read_to_device(true, true, bytes);
     if let ToDevice::Refused(number) = found {
         print_refused(number);
         return;
     }
     let mut out = [0u8; 511];
-    let written = message::write_to_device(
+    let written = codec::write_to_device(
         found,
         message::version_at(bytes, 8),
-        message::fragment_data(bytes),
+        codec::fragment_data(bytes),
         &mut out,
     );
     let n = basis::least(written.length, 511);
@@ -57,14 +57,14 @@ fn show_to_device(label: &[u8], bytes: &[u8]) {
 
 fn show_to_gateway(label: &[u8], bytes: &[u8]) {
     io::write_all(STDOUT_FILENO, label);
-    let found = message::read_to_gateway(true, true, bytes);
+    let found = codec::read_to_gateway(true, true, bytes);
     if let ToGateway::Refused(number) = found {
         print_refused(number);
         return;
     }
     let mut out = [0u8; 26];
-    let at = message::version_place(found);
-    let written = message::write_to_gateway(found, message::version_at(bytes, at), &mut out);
+    let at = codec::version_place(found);
+    let written = codec::write_to_gateway(found, message::version_at(bytes, at), &mut out);
     let n = basis::least(written.length, 26);
     print_written(written.number, &out[0..n]);
 }

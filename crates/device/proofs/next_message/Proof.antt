@@ -3,8 +3,8 @@ use borrow.Author.Tests.{eq-eqb, ne-eqb}
 use borrow.Author.Needs.{needs}
 use mathlib.Core.Path.{sym, _∙_, ap}
 use Rattle.basis.proofs.Choosing.{pick-yes, pick-no}
-use Rattle.message.specs.Codec.{Reading, toGateway, said}
-use Rattle.message.specs.Messages.{GatewayMessage}
+use Rattle.codec.specs.Codec.{said}
+use Rattle.message.specs.Messages.{GatewayMessage, Reading, toGateway}
 use Rattle.device_record.proofs.Guarded.{asking-passed}
 use Rattle.device.specs.Rules.{wanted, nextMessageOf}
 use Rattle.device.proofs.Replying.{wanted-allowed}

@@ -1,7 +1,7 @@
 -- `gateway::replies::replied` meets its contract. Assumes nothing.
 use borrow.Author.Needs.{needs}
 use mathlib.Core.Path.{ap}
-use Rattle.message.specs.Codec.{Sent}
+use Rattle.codec.specs.Codec.{Sent}
 use Rattle.gateway.specs.Inner.{withReply}
 use Rattle.gateway.proofs.replies.replied.Statement.{statement}
 use Rattle.gateway.proofs.replies.replied.Tie as tie

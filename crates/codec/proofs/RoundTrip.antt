@@ -1,0 +1,152 @@
+-- Messages written and read: each undoes the other, for any lawful column of 01's table and so for all twelve messages. Assumes nothing.
+use Prim.Native.Nat.{ℕ, _≤_}
+use native.Mathlib.Omega.{arith}
+use mathlib.Core.Path.{_≡_, refl, sym, _∙_, ap, ap₂, subst}
+use mathlib.Core.Bool.{Bool, true}
+use mathlib.Core.List.{List}
+use lib.ListN.{length, take, drop, getD}
+use borrow.Author.Tests.{eqb-true, eqb-false, le-ltb}
+use Rattle.basis.specs.Choice.{pick}
+use Rattle.basis.specs.Bytes.{Bytes, over}
+use Rattle.basis.proofs.Choosing.{pick-yes, pick-no, by-cases, and-left, and-right, refusal-among}
+use Rattle.basis.proofs.Lists.{same-true, same-refl, take-over}
+use Rattle.message.specs.Recognition.{recognition}
+use Rattle.message.specs.Messages.{Table, toDevice, toGateway, Reading, found, refused}
+use Rattle.codec.specs.Codec.{frame, Sent, bytesOf, readOf, writeOf, said}
+use Rattle.codec.proofs.Frames.{frame-code, frame-data, frame-recognised, length-frame, Recognised, recognised, recognised-facts, recognised-frame}
+use Rattle.message.proofs.Tables.{Lawful, device-lawful, gateway-lawful}
+
+-- the claim
+pub record RoundTrip (t : Table) : Type 0 where
+  -- a valid message, written, is recognised with 0, fits its sender's buffer and is read as itself; no other message is found in it
+  pub written-recognised : (m : t .Message) → t .valid m ≡ true → recognition true true (bytesOf t m) ≡ 0
+  pub written-fits : (m : t .Message) → t .valid m ≡ true → length (bytesOf t m) ≤ t .room
+  pub written-read : (m : t .Message) → t .valid m ≡ true → readOf t true true (bytesOf t m) ≡ found m
+  pub written-only : (m n : t .Message) → t .valid m ≡ true → (supported pcp : Bool) → readOf t supported pcp (bytesOf t m) ≡ found n → n ≡ m
+  -- through a buffer: a valid message is sent where there is room, and what was sent is read as what was to be sent
+  pub sent-valid : (m : t .Message) → t .valid m ≡ true → (buffer : List ℕ) → t .room ≤ length buffer
+      → writeOf t (found m) buffer ≡ record { number = 0; length = length (bytesOf t m); buffer = over (bytesOf t m) buffer }
+  pub sent-read : (r : Reading (t .Message)) (buffer : List ℕ) → let w : Sent = writeOf t r buffer in
+      w .number ≡ 0 → readOf t true true (take (w .length) (w .buffer)) ≡ r
+  pub said-read : (m : t .Message) → t .valid m ≡ true → (buffer : List ℕ) → let w : Sent = said t (found m) buffer in
+      readOf t true true (take (w .length) (w .buffer)) ≡ found m
+  -- a message that is read is valid, has the code that stands in the bytes, and is written as those bytes again
+  pub read-valid : (supported pcp : Bool) (bytes : List ℕ) (m : t .Message) → readOf t supported pcp bytes ≡ found m → t .valid m ≡ true
+  pub read-code : (supported pcp : Bool) (bytes : List ℕ) (m : t .Message) → readOf t supported pcp bytes ≡ found m → t .code m ≡ getD bytes 3 0
+  pub read-written : (supported pcp : Bool) (bytes : List ℕ) (m : t .Message) → readOf t supported pcp bytes ≡ found m
+      → Bytes bytes → bytesOf t m ≡ bytes
+  -- any other reading has one of the numbers 1 to 8
+  pub refused-number : (supported pcp : Bool) (bytes : List ℕ) (n : ℕ) → readOf t supported pcp bytes ≡ refused n → (1 ≤ n) × (n ≤ 8)
+
+-- ---- reading
+
+recognition-number : (supported pcp : Bool) (bytes : List ℕ) → recognition supported pcp bytes ≤ 7
+unfolding recognition
+recognition-number supported pcp bytes = refusal-among (λ x. x ≤ 7) _ (omega arith) (omega arith)
+
+module _ (t : Table) (supported pcp : Bool) (bytes : List ℕ) where
+  -- what a message found in the bytes tells of them
+  pub record FoundIn (m : t .Message) : Type 0 where
+    pub number : recognition supported pcp bytes ≡ 0
+    pub fields : t .fields (getD bytes 3 0) (drop 8 bytes) ≡ m
+    pub content : t .content m ≡ drop 8 bytes
+    pub valid : t .valid m ≡ true
+
+  -- what a reading tells
+  abbrev pub Tells : Reading (t .Message) → Type 0
+  Tells (found m) = FoundIn m
+  Tells (refused n) = (1 ≤ n) × (n ≤ 8)
+
+  pub read-tells : Tells (readOf t supported pcp bytes)
+  unfolding readOf
+  read-tells =
+      let m : t .Message = t .fields (getD bytes 3 0) (drop 8 bytes) in
+      by-cases Tells
+      (λ z. by-cases Tells
+      (λ ok. record { number = eqb-true _ _ z; fields = refl; content = same-true _ _ (and-right (t .valid m) _ ok); valid = and-left _ _ ok }) (λ _. omega arith))
+      (λ z. omega (arith, eqb-false (recognition supported pcp bytes) 0 z, recognition-number supported pcp bytes))
+
+-- ---- any lawful column
+
+module _ (t : Table) (lawful : Lawful t) where
+  module _ (m : t .Message) (v : t .valid m ≡ true) where
+    recognised-again : recognition true true (bytesOf t m) ≡ 0
+    unfolding bytesOf
+    recognised-again = let (low, high, _) = lawful .bounds m v in frame-recognised (t .code m) (t .content m) low high
+
+    fits : length (bytesOf t m) ≤ t .room
+    unfolding bytesOf
+    fits = rw (length-frame (t .code m) (t .content m)) (lawful .bounds m v .2)
+
+    read-again : readOf t true true (bytesOf t m) ≡ found m
+    unfolding readOf bytesOf pick
+    read-again =
+        rw (
+          recognised-again,
+          frame-code (t .code m) (t .content m),
+          frame-data (t .code m) (t .content m),
+          lawful .restored m v,
+          v,
+          same-refl (t .content m),
+        )
+
+    sent : (buffer : List ℕ) → t .room ≤ length buffer
+        → writeOf t (found m) buffer ≡ record { number = 0; length = length (bytesOf t m); buffer = over (bytesOf t m) buffer }
+    unfolding writeOf
+    sent buffer h = pick-no _ _ _ (le-ltb (length buffer) (t .room) h) ∙ pick-yes _ _ _ v
+
+    said-again : (buffer : List ℕ) → let w : Sent = said t (found m) buffer in readOf t true true (take (w .length) (w .buffer)) ≡ found m
+    unfolding said
+    said-again buffer = rw (take-over (bytesOf t m) buffer) read-again
+
+  abbrev ReadBack : Reading (t .Message) → Sent → Type 0
+  ReadBack r w = w .number ≡ 0 → readOf t true true (take (w .length) (w .buffer)) ≡ r
+
+  read-back : (r : Reading (t .Message)) (buffer : List ℕ) → ReadBack r (writeOf t r buffer)
+  unfolding writeOf
+  read-back (found m) buffer =
+      by-cases (ReadBack (found m)) (λ _ e. absurd (omega (arith, e)))
+      (λ _. by-cases (ReadBack (found m)) (λ v _. rw (take-over (bytesOf t m) buffer) (read-again m v)) (λ _ e. absurd (omega (arith, e))))
+  read-back (refused n) buffer = by-cases (ReadBack (refused n)) (λ _ e. absurd (omega (arith, e))) (λ _ e. absurd (omega (arith, e)))
+
+  module _ (supported pcp : Bool) (bytes : List ℕ) (m : t .Message) (e : readOf t supported pcp bytes ≡ found m) where
+    told : FoundIn t supported pcp bytes m
+    told = subst (Tells t supported pcp bytes) e (read-tells t supported pcp bytes)
+
+    header : Recognised bytes
+    header = recognised supported pcp bytes (told .number)
+
+    code-in : t .code m ≡ getD bytes 3 0
+    code-in = ap (t .code) (sym (told .fields)) ∙ lawful .code-kept (getD bytes 3 0) (drop 8 bytes) (header .low) (header .high)
+
+    written-again : Bytes bytes → bytesOf t m ≡ bytes
+    unfolding bytesOf
+    written-again b = ap₂ frame code-in (told .content) ∙ recognised-frame bytes b header
+
+    -- the facts do not matter once a message is found
+    read-so : readOf t true true bytes ≡ found m
+    read-so = let (s, p) = recognised-facts supported pcp bytes (told .number) in rw (s, p) at e
+
+  pub round-trip : RoundTrip t
+  round-trip =
+      record {
+        written-recognised = recognised-again;
+        written-fits = fits;
+        written-read = read-again;
+        written-only = λ m n v s p e. let f = read-so s p (bytesOf t m) n e in let g = read-again m v in cc;
+        sent-valid = sent;
+        sent-read = read-back;
+        said-read = said-again;
+        read-valid = λ s p bytes m e. told s p bytes m e .valid;
+        read-code = code-in;
+        read-written = written-again;
+        refused-number = λ s p bytes n e. subst (Tells t s p bytes) e (read-tells t s p bytes);
+      }
+
+-- ---- all twelve messages
+
+pub device-round-trip : RoundTrip toDevice
+device-round-trip = round-trip toDevice device-lawful
+
+pub gateway-round-trip : RoundTrip toGateway
+gateway-round-trip = round-trip toGateway gateway-lawful
