@@ -24,13 +24,13 @@ c_host() {
         -o "target/hosts/$2"
 }
 
-# rust_program SOURCE PROGRAM FLAG..: builds a Rust program.
+# rust_program SOURCE PROGRAM FLAG..: builds a Rust program; with --crate-type, a crate.
 rust_program() {
     mkdir -p target/hosts
     rustc --edition 2021 -C opt-level=3 -D warnings -o "target/hosts/$2" "$1" "${@:3}"
 }
 
-# rust_host SOURCE PROGRAM: builds a Rust program that links the library.
+# rust_host SOURCE PROGRAM FLAG..: builds a Rust program that links the library.
 rust_host() {
-    rust_program "$1" "$2" -L native=target/staticlib -l static=host
+    rust_program "$1" "$2" -L native=target/staticlib -l static=host "${@:3}"
 }
