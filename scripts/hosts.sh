@@ -26,15 +26,15 @@ c_host() {
     gcc -std=c99 -Wall -Wextra -Werror -O2 "${@:3}" -Iinclude "$1" "$archive" -o "target/hosts/$2"
 }
 
-# rust_program SOURCE PROGRAM FLAG..: builds a Rust program.
+# rust_program SOURCE PROGRAM FLAG..: builds a Rust program; with --crate-type, a crate.
 rust_program() {
     mkdir -p target/hosts
     rustc --edition 2021 -C opt-level=3 -D warnings -o "target/hosts/$2" "$1" "${@:3}"
 }
 
-# rust_host SOURCE PROGRAM: builds a Rust program that links the library.
+# rust_host SOURCE PROGRAM FLAG..: builds a Rust program that links the library.
 rust_host() {
-    rust_program "$1" "$2" -L native=target/staticlib -l static=host
+    rust_program "$1" "$2" -L native=target/staticlib -l static=host "${@:3}"
 }
 
 # last_line PROGRAM ARGUMENT..: runs it and shows its last line, or all that it printed where it fails.

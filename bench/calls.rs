@@ -1,0 +1,145 @@
+//! Single calls.
+
+use crate::ends::{DeviceEnd, GatewayEnd, Library, Memory, Plain, Side};
+use crate::measure::{compare, timed, Times};
+use crate::pcp::{code, DEVICE_REPLY, GATEWAY_REPLY};
+use crate::upgrade::offered;
+use std::time::Duration;
+
+const ROUNDS: usize = 301;
+
+pub fn check(input: &[u8], calls: usize, rounds: usize) -> Times {
+    assert_eq!(Library::check(input), Plain::check(input));
+    let units = calls * input.len();
+    compare(
+        rounds,
+        units,
+        || repeated(calls, || Library::check(input)),
+        || repeated(calls, || Plain::check(input)),
+    )
+}
+
+fn repeated<T>(calls: usize, mut call: impl FnMut() -> T) -> Duration {
+    timed(|| {
+        for _ in 0..calls {
+            call();
+        }
+    })
+}
+
+/// All fragments but the last are received, for that one would also have the image checked.
+pub fn fragment_received(size: u16, package: &[u8]) -> Times {
+    let messages = fragment_messages(size, package);
+    let messages = &messages[..messages.len() - 1];
+    let (mut library, mut plain) =
+        (Loading::<Library>::new(size, package), Loading::<Plain>::new(size, package));
+    library.receive_and_set_back(messages);
+    plain.receive_and_set_back(messages);
+    assert!(library.memory.image == plain.memory.image, "the image of both is the same");
+    compare(
+        ROUNDS,
+        messages.len(),
+        || library.receive_and_set_back(messages),
+        || plain.receive_and_set_back(messages),
+    )
+}
+
+/// The gateway is asked for the first fragment.
+pub fn fragment_served(size: u16, package: &[u8]) -> Times {
+    let request = Loading::<Plain>::new(size, package).ask().to_vec();
+    let (mut library, mut plain) =
+        (Serving::<Library>::new(size, package), Serving::<Plain>::new(size, package));
+    assert_eq!(library.serve(&request), plain.serve(&request));
+    let calls = 200;
+    compare(
+        ROUNDS,
+        calls,
+        || repeated(calls, || library.serve(&request).len()),
+        || repeated(calls, || plain.serve(&request).len()),
+    )
+}
+
+/// The device is asked when so many of the package's first fragments are stored; the counts rise.
+pub fn asking<'a>(
+    size: u16,
+    package: &'a [u8],
+    counts: &'a [usize],
+) -> impl Iterator<Item = (usize, Times)> + 'a {
+    let messages = fragment_messages(size, package);
+    let (mut library, mut plain) =
+        (Loading::<Library>::new(size, package), Loading::<Plain>::new(size, package));
+    let mut before = 0;
+    counts.iter().map(move |&stored| {
+        library.receive(&messages[before..stored]);
+        plain.receive(&messages[before..stored]);
+        before = stored;
+        (stored, asked(&mut library, &mut plain, if stored < 1_000 { 1_000 } else { 20 }))
+    })
+}
+
+fn asked(library: &mut Loading<Library>, plain: &mut Loading<Plain>, calls: usize) -> Times {
+    assert_eq!(library.ask(), plain.ask());
+    compare(101, calls, || repeated(calls, || library.ask().len()), || repeated(calls, || plain.ask().len()))
+}
+
+fn fragment_messages(size: u16, package: &[u8]) -> Vec<Vec<u8>> {
+    let fragments = package.chunks(size.into()).enumerate();
+    fragments.map(|(index, data)| fragment_message(index as u16, data)).collect()
+}
+
+fn fragment_message(index: u16, data: &[u8]) -> Vec<u8> {
+    let mut buffer = [0; GATEWAY_REPLY];
+    plain::message::write(&mut buffer, code::FRAGMENT, &[&[0x00], &index.to_be_bytes(), data]).to_vec()
+}
+
+/// A device to which a package was announced.
+struct Loading<S: Side> {
+    device: S::Device,
+    memory: Memory,
+    reply: [u8; DEVICE_REPLY],
+}
+
+impl<S: Side> Loading<S> {
+    fn new(size: u16, package: &[u8]) -> Loading<S> {
+        let mut memory = Memory::new(size, package);
+        let (device, _) = offered::<S>(size, package, &mut memory);
+        Loading { device, memory, reply: [0; DEVICE_REPLY] }
+    }
+
+    fn ask(&mut self) -> &[u8] {
+        self.device.next_message(&self.memory, &mut self.reply).expect("the device asks for a fragment")
+    }
+
+    fn receive(&mut self, messages: &[Vec<u8>]) {
+        for message in messages {
+            self.device.receive(message, &mut self.memory, &mut self.reply).expect("the device takes it");
+        }
+    }
+
+    /// Record and map are set back, so that the same fragments can be received again.
+    fn receive_and_set_back(&mut self, messages: &[Vec<u8>]) -> Duration {
+        let (device, map) = (self.device.clone(), self.memory.map.clone());
+        let time = timed(|| self.receive(messages));
+        self.device = device;
+        self.memory.map = map;
+        time
+    }
+}
+
+/// A gateway whose announcement was accepted.
+struct Serving<'a, S: Side> {
+    gateway: S::Gateway,
+    package: &'a [u8],
+    reply: [u8; GATEWAY_REPLY],
+}
+
+impl<'a, S: Side> Serving<'a, S> {
+    fn new(size: u16, package: &'a [u8]) -> Serving<'a, S> {
+        let (_, gateway) = offered::<S>(size, package, &mut Memory::new(size, package));
+        Serving { gateway, package, reply: [0; GATEWAY_REPLY] }
+    }
+
+    fn serve(&mut self, request: &[u8]) -> &[u8] {
+        self.gateway.receive(request, self.package, &mut self.reply).expect("the gateway answers")
+    }
+}
