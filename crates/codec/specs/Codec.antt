@@ -24,6 +24,10 @@ pub record Sent : Type 0 where
   pub length : ℕ
   pub buffer : List ℕ
 
+-- nothing is written
+abbrev pub unsent : ℕ → List ℕ → Sent
+unsent n buffer = record { number = n; length = 0; buffer = buffer }
+
 module _ (t : Table) where
   -- a message as bytes
   unfoldable pub bytesOf : t .Message → List ℕ
@@ -36,17 +40,16 @@ module _ (t : Table) where
       let m : t .Message = t .fields (getD bytes 3 0) (drop 8 bytes) in
       pick (eqb n 0) (pick (t .valid m && same (t .content m) (drop 8 bytes)) (found m) (refused 8)) (refused n)
 
-  -- the buffer (15), then the fields (8); on 0 the message fills the front of the buffer and the rest stays
+  -- the fields (8); on 0 the message fills the front of the buffer and the rest stays
+  abbrev pub filled : Reading (t .Message) → List ℕ → Sent
+  filled (found m) buffer = pick (t .valid m) (record { number = 0; length = length (bytesOf m); buffer = over (bytesOf m) buffer }) (unsent 8 buffer)
+  filled (refused n) buffer = unsent 8 buffer
+
+  -- the buffer (15), then the fields
   unfoldable pub writeOf : Reading (t .Message) → List ℕ → Sent
-  writeOf (found m) buffer =
-      pick (ltb (length buffer) (t .room)) (record { number = 15; length = 0; buffer = buffer })
-      (pick (t .valid m) (record { number = 0; length = length (bytesOf m); buffer = over (bytesOf m) buffer })
-      (record { number = 8; length = 0; buffer = buffer }))
-  writeOf (refused n) buffer =
-      pick (ltb (length buffer) (t .room)) (record { number = 15; length = 0; buffer = buffer })
-      (record { number = 8; length = 0; buffer = buffer })
+  writeOf r buffer = pick (ltb (length buffer) (t .room)) (unsent 15 buffer) (filled r buffer)
 
   -- a message that is sent into a buffer with room for it, or the number why there is none
   unfoldable pub said : Reading (t .Message) → List ℕ → Sent
   said (found m) buffer = record { number = 0; length = length (bytesOf m); buffer = over (bytesOf m) buffer }
-  said (refused n) buffer = record { number = n; length = 0; buffer = buffer }
+  said (refused n) buffer = unsent n buffer

@@ -13,6 +13,7 @@ use Rattle.message.specs.Recognition.{recognition}
 use Rattle.device_record.specs.declared.Device.{Device}
 use Rattle.device_record.specs.Record.{loading}
 use Rattle.bitmap.specs.Bitmap.{lowestMissing}
+use Rattle.device.specs.declared.Finished.{Finished}
 use Rattle.device.specs.Rules as rules
 use Rattle.device.specs.Rules.{After, onQuery, onAnnounce, onFragment, onDownloadReply, onExecute, onResultReply, begin, store, handle, receiveOf, wanted, nextMessageOf, installFinishedOf}
 use Rattle.bitmap.proofs.Bitmaps.{lowest-exists}
@@ -75,7 +76,7 @@ module _ (rule : Rule) (d : Device) (image map : List ℕ) (s : Sound rule d ima
   pub install-neither : (code : ℕ) → Neither (installFinishedOf d code .number)
   unfolding installFinishedOf refusal
   install-neither code =
-      by-cases (λ (f : rules.Finish). Neither (f .number)) (λ _. omega arith)
+      by-cases (λ (f : Finished). Neither (f .number)) (λ _. omega arith)
       (λ _. unless 29 (sound-record rule d image map s)
       (by-cases Neither (λ _. by-cases Neither (λ _. omega arith) (λ _. omega arith)) (λ _. omega arith)))
 

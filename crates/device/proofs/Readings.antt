@@ -18,7 +18,8 @@ use Rattle.codec.proofs.RoundTrip.{device-round-trip}
 use Rattle.device_record.specs.declared.Device.{Device}
 use Rattle.device.specs.declared.Answer.{Answer}
 use Rattle.device.specs.Rules.{refuse, handle, onQuery, onAnnounce, onFragment, onDownloadReply, onExecute, onResultReply}
-use Rattle.device.specs.Coded.{afterCall, Awaited}
+use Rattle.device.specs.Coded.{afterCall}
+use Rattle.device.specs.Inner.{Awaited}
 
 -- where the tag is none of some, and the awaited message's tag is not among them, the reading is a refusal
 pub refusal-left : (keys : List ℕ) (code : ℕ) (m : ToDevice) → T (not (hasKey keys (code - 18))) → OneOf keys (tagOf the-type m) → Awaited code m

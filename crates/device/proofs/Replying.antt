@@ -25,7 +25,8 @@ use Rattle.device_record.specs.declared.Device.{Device}
 use Rattle.device.specs.declared.Said.{Said}
 use Rattle.device_record.specs.Record.{loading, conditionOk, recordOk}
 use Rattle.device.specs.Rules.{replied, announceResult, executeResult, wanted}
-use Rattle.device.specs.Coded.{afterCall, afterAsk, Sayable}
+use Rattle.device.specs.Coded.{afterCall, afterAsk}
+use Rattle.device.specs.Inner.{Sayable}
 use Rattle.device_record.proofs.Records.{Kept, Ranged, record-kept}
 
 -- what the code's enum says: a refusal its number, a message itself

@@ -18,7 +18,7 @@ use Rattle.message.specs.Version.{goodVersion}
 use Rattle.message.specs.Messages.{fragment, installCode, deviceValid, found}
 use Rattle.message.specs.declared.Fields.{Fields}
 use Rattle.device_record.specs.declared.Device.{Device}
-use Rattle.device_record.specs.Record.{idle, loading, loaded, acked, failed, installing, reporting, fresh, inPhase, begun, ended, downloadOk, recordOk, roomOk, mapBytes}
+use Rattle.device_record.specs.Record.{idle, loading, loaded, acked, failed, installing, reporting, fresh, inPhase, begun, withOutcome, downloadOk, recordOk, roomOk, mapBytes}
 use Rattle.bitmap.specs.Bitmap.{marked, mark, cleared, setBits}
 use Rattle.device.specs.Rules.{completion}
 use Rattle.bitmap.proofs.Bitmaps.{setBits-le, setBits-mark, setBits-cleared}
@@ -221,9 +221,9 @@ sound-executed rule d image map p s =
     past (inl e) = omega arith
     past (inr e) = omega arith
 
-pub sound-ended : (rule : Rule) (d : Device) (image map : List ℕ) (code : ℕ) → d .phase ≡ installing → installCode code ≡ true
-    → Sound rule d image map → Sound rule (ended code (pick (eqb code 0x00) (d .fields .version) (d .running)) d) image map
-sound-ended rule d image map code p k s =
+pub sound-outcome : (rule : Rule) (d : Device) (image map : List ℕ) (code : ℕ) → d .phase ≡ installing → installCode code ≡ true
+    → Sound rule d image map → Sound rule (withOutcome code (pick (eqb code 0x00) (d .fields .version) (d .running)) d) image map
+sound-outcome rule d image map code p k s =
     sound-on rule d image map reporting code (pick (eqb code 0x00) (d .fields .version) (d .running)) (omega arith) (omega arith) (omega arith) k
     (by-cases (λ (v : List ℕ). goodVersion v ≡ true) (λ _. s .target-good) (λ _. s .running-good)) s
 
@@ -239,4 +239,4 @@ sound-does rule d image map input o (Views.stores condition index bytes i st e) 
     rw e (sound-stored rule d image map index bytes st (new condition index bytes i st) s)
 sound-does rule d image map input o (Views.moves phase m e) new s = rw e (sound-moved rule d image map input phase m s)
 sound-does rule d image map input o (Views.executes condition i p e) new s = rw e (sound-executed rule d image map p s)
-sound-does rule d image map input o (Views.reports code i p k e) new s = rw e (sound-ended rule d image map code p k s)
+sound-does rule d image map input o (Views.reports code i p k e) new s = rw e (sound-outcome rule d image map code p k s)

@@ -20,8 +20,9 @@ use Rattle.message.specs.declared.Fields.{Fields}
 use Rattle.codec.proofs.Heard.{read}
 use Rattle.device_decisions.proofs.Accepted.{Accepted, accepted-facts}
 use Rattle.device_record.specs.declared.Device.{Device}
-use Rattle.device_record.specs.Record.{idle, loading, loaded, acked, failed, installing, reporting, holding, inPhase, begun, grown, ended, recordOk, roomOk, mapBytes}
+use Rattle.device_record.specs.Record.{idle, loading, loaded, acked, failed, installing, reporting, holding, inPhase, begun, grown, withOutcome, recordOk, roomOk, mapBytes}
 use Rattle.bitmap.specs.Bitmap.{marked, mark, cleared, lowestMissing}
+use Rattle.device.specs.declared.Finished.{Finished}
 use Rattle.device.specs.Rules as rules
 use Rattle.device.specs.Rules.{After, announceResult, resumes, fragmentLength, completion, executeResult, refuse, moved, replied, begin, store, onQuery, onAnnounce, onFragment, onDownloadReply, onExecute, onResultReply, handle, receiveOf, wanted, nextMessageOf, installFinishedOf}
 use Rattle.device.proofs.Holds.{lastAfter}
@@ -65,7 +66,7 @@ askOut d image map reply =
 
 abbrev pub installOut : Device → (image map : List ℕ) (code : ℕ) → Out
 installOut d image map code =
-    let r : rules.Finish = installFinishedOf d code in
+    let r : Finished = installFinishedOf d code in
     out (r .number) (r .device) image map []
 
 -- ---- the view
@@ -145,7 +146,7 @@ module _ (d : Device) (image map : List ℕ) where
     executes : (condition : ℕ) → input ≡ hears condition (found execute) → (d .phase ≡ loaded) ⊎ (d .phase ≡ acked)
         → o ≡ out 0 (inPhase installing d) image map (spoken (executeReply 0x00)) → Does input o
     reports : (code : ℕ) → input ≡ installs code → d .phase ≡ installing → installCode code ≡ true
-        → o ≡ out 0 (ended code (pick (eqb code 0x00) (d .fields .version) (d .running)) d) image map [] → Does input o
+        → o ≡ out 0 (withOutcome code (pick (eqb code 0x00) (d .fields .version) (d .running)) d) image map [] → Does input o
 
 -- ---- what is said is what stands in the buffer
 
@@ -347,7 +348,7 @@ module _ (d : Device) (image map : List ℕ) where
   unfolding installFinishedOf
   install-does code =
       let n : ℕ = refusal ((29, recordOk d) ∷ (9, eqb (d .phase) installing) ∷ (16, installCode code) ∷ []) in
-      by-cases (λ (r : rules.Finish). Does d image map (installs code) (out (r .number) (r .device) image map []))
+      by-cases (λ (r : Finished). Does d image map (installs code) (out (r .number) (r .device) image map []))
       (λ t.
       let (_, e₁) = passed 28 (recordOk d) _ (eqb-true n 0 t) in
       let (p, e₂) = passed 8 (eqb (d .phase) installing) _ e₁ in

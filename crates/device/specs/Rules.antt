@@ -11,8 +11,9 @@ use Rattle.message.specs.Messages.{DeviceMessage, query, announce, fragment, do
 use Rattle.codec.specs.Codec.{Sent, bytesOf, readOf, said}
 use Rattle.message.specs.declared.Fields.{Fields}
 use Rattle.device_record.specs.declared.Device.{Device}
-use Rattle.device_record.specs.Record.{idle, loading, loaded, acked, failed, installing, reporting, conditionOk, inPhase, begun, grown, ended, recordOk, roomOk, mapBytes}
+use Rattle.device_record.specs.Record.{idle, loading, loaded, acked, failed, installing, reporting, conditionOk, inPhase, begun, grown, withOutcome, recordOk, roomOk, mapBytes}
 use Rattle.bitmap.specs.Bitmap.{marked, mark, cleared, lowestMissing}
+use Rattle.device.specs.declared.Finished.{Finished}
 unfoldable pub use Rattle.device_decisions.specs.Decisions.{announceResult, sameFields, resumes, fragmentLength, passes, completion, executeResult}
 
 -- what a call leaves: the number, the length of the reply, the record, and the three buffers
@@ -138,14 +139,10 @@ nextMessageOf d image map reply =
 
 -- ---- the installer's end
 
-pub record Finish : Type 0 where
-  pub number : ℕ
-  pub device : Device
-
 -- 29, 9, 16; its code is kept, and with 00 the target becomes the running version
-unfoldable pub installFinishedOf : Device → (code : ℕ) → Finish
+unfoldable pub installFinishedOf : Device → (code : ℕ) → Finished
 installFinishedOf d code =
     let n : ℕ = refusal ((29, recordOk d) ∷ (9, eqb (d .phase) installing) ∷ (16, installCode code) ∷ []) in
     pick (eqb n 0)
-    (record { number = 0; device = ended code (pick (eqb code 0x00) (d .fields .version) (d .running)) d })
+    (record { number = 0; device = withOutcome code (pick (eqb code 0x00) (d .fields .version) (d .running)) d })
     (record { number = n; device = d })

@@ -19,7 +19,8 @@ ghost use lib.ListN.{length};
 ghost use Rattle.message.specs.Limits.{deviceRoom};
 ghost use Rattle.message.specs.Coded.{deviceMessage};
 ghost use Rattle.device_record.specs.Record.{conditionOk};
-ghost use Rattle.device.specs.Coded.{afterCall, Awaited};
+ghost use Rattle.device.specs.Coded.{afterCall};
+ghost use Rattle.device.specs.Inner.{Awaited};
 ghost use Rattle.device.specs.Rules.{handle};
 
 // 20: a package is announced. An answer other than 00 changes nothing.

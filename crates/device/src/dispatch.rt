@@ -17,7 +17,8 @@ ghost use Rattle.message.specs.Limits.{deviceRoom};
 ghost use Rattle.message.specs.Coded.{deviceMessage};
 ghost use Rattle.device_record.specs.Record.{conditionOk, recordOk, roomOk};
 ghost use Rattle.device.specs.Rules.{handle};
-ghost use Rattle.device.specs.Coded.{afterCall, Awaited};
+ghost use Rattle.device.specs.Coded.{afterCall};
+ghost use Rattle.device.specs.Inner.{Awaited};
 
 // A refusal leaves by the exit of whatever handler it comes to.
 pub(crate) fn handle(

@@ -19,7 +19,8 @@ ghost use Rattle.message.specs.Coded.{deviceMessage};
 ghost use Rattle.device_record.specs.Record.{loading, recordOk, roomOk};
 ghost use Rattle.device_decisions.specs.Decisions.{fragmentLength};
 ghost use Rattle.device.specs.Rules.{store, handle};
-ghost use Rattle.device.specs.Coded.{afterCall, Awaited};
+ghost use Rattle.device.specs.Coded.{afterCall};
+ghost use Rattle.device.specs.Inner.{Awaited};
 
 // The data at its place, then the bit, the count and the phase. The tests have passed.
 fn store(device: Device, index: u16, content: &[u8], image: &mut [u8], map: &mut [u8]) -> Answer

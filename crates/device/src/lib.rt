@@ -1,7 +1,7 @@
 // The device's end of an upgrade ("head" in 01): the calls that a host makes of it.
 ghost use mathlib.Core.Path.{_≡_};
 ghost use Rattle.device.specs.Rules.{receiveOf, nextMessageOf, installFinishedOf};
-ghost use Rattle.device.specs.Coded.{afterCall, afterAsk, finish};
+ghost use Rattle.device.specs.Coded.{afterCall, afterAsk};
 
 mod announce;
 mod asking;
@@ -68,7 +68,7 @@ pub fn next_message(device: Device, image: &[u8], map: &[u8], reply: &mut [u8]) 
 
 // The installer has ended with a code.
 pub fn install_finished(device: Device, code: u8) -> Finished
-    ensures { λ r. ⌜ finish r ≡ installFinishedOf device code ⌝ }
+    ensures { λ r. ⌜ r ≡ installFinishedOf device code ⌝ }
 {
     let number = device_record::finishing(device, code);
     if number != 0 {
@@ -76,6 +76,6 @@ pub fn install_finished(device: Device, code: u8) -> Finished
     }
     Finished {
         number: 0,
-        device: device_record::ended(device, code),
+        device: device_record::with_outcome(device, code),
     }
 }

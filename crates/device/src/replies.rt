@@ -18,7 +18,8 @@ ghost use Rattle.codec.specs.Codec.{said};
 ghost use Rattle.message.specs.Coded.{deviceMessage, gatewayMessage};
 ghost use Rattle.device.specs.Rules.{refuse, moved, replied, handle};
 ghost use Rattle.device_record.specs.Record.{recordOk};
-ghost use Rattle.device.specs.Coded.{afterCall, afterAsk, Sayable, Awaited};
+ghost use Rattle.device.specs.Coded.{afterCall, afterAsk};
+ghost use Rattle.device.specs.Inner.{Sayable, Awaited};
 
 // The number of a reading that is no message.
 pub(crate) fn refusal(message: ToDevice) -> u8

@@ -62,8 +62,8 @@ grown phase last d =
     record { phase = phase; running = d .running; fields = d .fields; stored = d .stored + 1; last = last; outcome = d .outcome }
 
 -- the installer's code kept, and what runs from now on
-abbrev pub ended : (code : ℕ) (running : List ℕ) → Device → Device
-ended code running d =
+abbrev pub withOutcome : (code : ℕ) (running : List ℕ) → Device → Device
+withOutcome code running d =
     record { phase = reporting; running = running; fields = d .fields; stored = d .stored; last = d .last; outcome = code }
 
 -- a fresh record from a running version alone; a bad version text is 17, with a record that 29 refuses

@@ -6,7 +6,7 @@ ghost use mathlib.Core.Path.{_≡_};
 ghost use Prim.Native.Nat.{_<_};
 ghost use lib.Dec.{eqb};
 ghost use Rattle.basis.specs.Choice.{pick};
-ghost use Rattle.device_record.specs.Record.{fresh, inPhase, begun, grown, ended, holding, conditionOk, downloadOk, recordOk, mapBytes, roomOk};
+ghost use Rattle.device_record.specs.Record.{fresh, inPhase, begun, grown, withOutcome, holding, conditionOk, downloadOk, recordOk, mapBytes, roomOk};
 
 // Idle, with a version that runs and is the target too.
 pub(crate) fn fresh(version: [u8; 16]) -> Device
@@ -62,8 +62,8 @@ pub fn grown(device: Device, phase: u8, last: u16) -> Device
 }
 
 // The installer's code kept. With 00 the target runs from now on.
-pub fn ended(device: Device, code: u8) -> Device
-    ensures { λ r. ⌜ r ≡ ended code (pick (eqb code 0) (device .fields .version) (device .running)) device ⌝ }
+pub fn with_outcome(device: Device, code: u8) -> Device
+    ensures { λ r. ⌜ r ≡ withOutcome code (pick (eqb code 0) (device .fields .version) (device .running)) device ⌝ }
 {
     let mut next = device;
     next.phase = Device::REPORTING;

@@ -17,7 +17,7 @@ use Rattle.device_record.specs.Record.{newOf}
 use Rattle.device.specs.declared.Answer.{Answer}
 use Rattle.device.specs.declared.Finished.{Finished}
 use Rattle.device.specs.declared.Said.{Said}
-use Rattle.device.specs.Coded.{afterCall, afterAsk, finish}
+use Rattle.device.specs.Coded.{afterCall, afterAsk}
 use Rattle.device.specs.Rules as device
 use Rattle.gateway.specs.declared.Gateway.{Gateway}
 use Rattle.gateway.specs.declared.Started.{Started}
@@ -50,13 +50,13 @@ module _ (bytes after : List ℕ) (room : deviceLength ≤ length bytes) where
       ∙ ap (λ (n : Made). record { answer = n .number; bytes = deviceKept bytes (n .number) (n .device) }) (e ∙ ap newOf t)
       ∙ long-enough deviceLength bytes _ _ room
 
-  pub device-finished : (d : Device) (code : ℕ) (f : Finished) → d ≡ deviceAt bytes → finish f ≡ device.installFinishedOf d code
+  pub device-finished : (d : Device) (code : ℕ) (f : Finished) → d ≡ deviceAt bytes → f ≡ device.installFinishedOf d code
       → after ≡ deviceKept bytes (f .number) (f .device)
       → _≡_ {A = Kept} (record { answer = f .number; bytes = after }) (deviceInstallFinishedOf bytes code)
   unfolding deviceInstallFinishedOf
   device-finished d code f at e k =
       (λ i. record { answer = f .number; bytes = k i })
-      ∙ ap (λ (n : device.Finish). record { answer = n .number; bytes = deviceKept bytes (n .number) (n .device) })
+      ∙ ap (λ (n : Finished). record { answer = n .number; bytes = deviceKept bytes (n .number) (n .device) })
       (e ∙ ap (λ (d : Device). device.installFinishedOf d code) at)
       ∙ long-enough deviceLength bytes _ _ room
 

@@ -18,6 +18,7 @@ use Rattle.codec.proofs.RoundTrip.{RoundTrip, device-round-trip}
 use Rattle.device_record.specs.declared.Device.{Device}
 use Rattle.device_record.specs.declared.Made.{Made}
 use Rattle.device_record.specs.Record.{newOf}
+use Rattle.device.specs.declared.Finished.{Finished}
 use Rattle.device.specs.Rules as device
 use Rattle.gateway.specs.declared.Gateway.{Gateway}
 use Rattle.gateway.specs.declared.Started.{Started}
@@ -93,7 +94,7 @@ module _ (d : Device) where
   finished-sized : Sized d → (code : ℕ) → Sized (device.installFinishedOf d code .device)
   unfolding device.installFinishedOf
   finished-sized s code =
-      by-cases (λ (f : device.Finish). Sized (f .device))
+      by-cases (λ (f : Finished). Sized (f .device))
       (λ _. record { running = by-cases (λ (v : List ℕ). length v ≡ 16) (λ _. s .target) (λ _. s .running); target = s .target })
       (λ _. s)
 
@@ -101,7 +102,7 @@ module _ (d : Device) where
   finished-refused : (code : ℕ) → (device.installFinishedOf d code .number ≡ 0 → ⊥) → device.installFinishedOf d code .device ≡ d
   unfolding device.installFinishedOf
   finished-refused code =
-      by-cases (λ (f : device.Finish). (f .number ≡ 0 → ⊥) → f .device ≡ d) (λ _ h. absurd (h refl)) (λ _ _. refl)
+      by-cases (λ (f : Finished). (f .number ≡ 0 → ⊥) → f .device ≡ d) (λ _ h. absurd (h refl)) (λ _ _. refl)
 
 at-sized : (bytes : List ℕ) → Sized (deviceAt bytes)
 unfolding deviceAt

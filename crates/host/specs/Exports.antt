@@ -11,6 +11,7 @@ use Rattle.codec.specs.Codec.{Sent}
 use Rattle.device_record.specs.declared.Device.{Device}
 use Rattle.device_record.specs.declared.Made.{Made}
 use Rattle.device_record.specs.Record.{newOf}
+use Rattle.device.specs.declared.Finished.{Finished}
 use Rattle.device.specs.Rules as device
 use Rattle.gateway.specs.declared.Gateway.{Gateway}
 use Rattle.gateway.specs.declared.Started.{Started}
@@ -95,7 +96,7 @@ module _ (bytes : List ℕ) where
 
   unfoldable pub deviceInstallFinishedOf : (code : ℕ) → Kept
   deviceInstallFinishedOf code =
-      let f : device.Finish = device.installFinishedOf (deviceAt bytes) code in
+      let f : Finished = device.installFinishedOf (deviceAt bytes) code in
       pick deviceRoom (record { answer = f .number; bytes = deviceKept (f .number) (f .device) }) (record { answer = shortRecord; bytes = bytes })
 
 -- ---- the gateway

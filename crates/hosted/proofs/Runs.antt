@@ -75,7 +75,7 @@ module _ (content : List ℕ) (h : Hosts) (r : Roomy h) where
       let l : lengthIn (packed (a .number) (a .length)) ≡ a .length =
       length-in (a .number) (a .length) (device-number (deviceAt (h .device)) (h .image) (h .map) reply (fact supported) (fact pcp) condition message) in
       λ i. record {
-        end = record { device = d i; image = e i .image; map = e i .map };
+        deviceEnd = record { device = d i; image = e i .image; map = e i .map };
         gateway = gatewayAt (h .gateway);
         fromDevice = ((λ j. aired (lengthIn (e j .answer)) (e j .reply)) ∙ ap (λ (k : ℕ). aired k (a .reply)) l) i ++ h .fromDevice;
         fromGateway = h .fromGateway;
@@ -86,7 +86,7 @@ module _ (content : List ℕ) (h : Hosts) (r : Roomy h) where
       let l : lengthIn (packed (s .number) (s .length)) ≡ s .length =
       length-in (s .number) (s .length) (device-ask-number (deviceAt (h .device)) (h .image) (h .map) reply) in
       λ i. record {
-        end = record { device = deviceAt (h .device); image = h .image; map = h .map };
+        deviceEnd = record { device = deviceAt (h .device); image = h .image; map = h .map };
         gateway = gatewayAt (h .gateway);
         fromDevice = ((λ j. aired (lengthIn (e j .answer)) (e j .reply)) ∙ ap (λ (k : ℕ). aired k (s .buffer)) l) i ++ h .fromDevice;
         fromGateway = h .fromGateway;
@@ -95,7 +95,7 @@ module _ (content : List ℕ) (h : Hosts) (r : Roomy h) where
       let d : deviceAt (deviceInstallFinishedOf (h .device) code .bytes) ≡ device.installFinishedOf (deviceAt (h .device)) code .device =
       records-carried .device-install-finished (h .device) code (r .device) in
       λ i. record {
-        end = record { device = d i; image = h .image; map = h .map };
+        deviceEnd = record { device = d i; image = h .image; map = h .map };
         gateway = gatewayAt (h .gateway);
         fromDevice = h .fromDevice;
         fromGateway = h .fromGateway;
@@ -110,7 +110,7 @@ module _ (content : List ℕ) (h : Hosts) (r : Roomy h) where
       let l : lengthIn (packed (a .number) (a .length)) ≡ a .length =
       length-in (a .number) (a .length) (gateway-number (gatewayAt (h .gateway)) content reply (fact supported) (fact pcp) message) in
       λ i. record {
-        end = record { device = deviceAt (h .device); image = h .image; map = h .map };
+        deviceEnd = record { device = deviceAt (h .device); image = h .image; map = h .map };
         gateway = g i;
         fromDevice = h .fromDevice;
         fromGateway = ((λ j. aired (lengthIn (e j .answer)) (e j .reply)) ∙ ap (λ (k : ℕ). aired k (a .reply)) l) i ++ h .fromGateway;
@@ -121,7 +121,7 @@ module _ (content : List ℕ) (h : Hosts) (r : Roomy h) where
       let l : lengthIn (packed (s .number) (s .length)) ≡ s .length =
       length-in (s .number) (s .length) (gateway-ask-number (gatewayAt (h .gateway)) content reply) in
       λ i. record {
-        end = record { device = deviceAt (h .device); image = h .image; map = h .map };
+        deviceEnd = record { device = deviceAt (h .device); image = h .image; map = h .map };
         gateway = gatewayAt (h .gateway);
         fromDevice = h .fromDevice;
         fromGateway = ((λ j. aired (lengthIn (e j .answer)) (e j .reply)) ∙ ap (λ (k : ℕ). aired k (s .buffer)) l) i ++ h .fromGateway;

@@ -30,7 +30,7 @@ pub record Roomy (h : Hosts) : Type 0 where
 abbrev pub seen : Hosts → World
 seen h =
     record {
-      end = record { device = deviceAt (h .device); image = h .image; map = h .map };
+      deviceEnd = record { device = deviceAt (h .device); image = h .image; map = h .map };
       gateway = gatewayAt (h .gateway);
       fromDevice = h .fromDevice;
       fromGateway = h .fromGateway;

@@ -52,7 +52,7 @@ module _ (b : Before) where
     device-said w [] n i = i
     device-said w (m ∷ ms) n i =
         let c : DeviceCall = given true true 0 m (deviceReply w) in
-        device-said (next (b .content) w (atDevice c)) ms n (Memᴰ·append-right (deviceSays (w .end) c) i)
+        device-said (next (b .content) w (atDevice c)) ms n (Memᴰ·append-right (deviceSays (w .deviceEnd) c) i)
 
     gateway-said : (w : World) (ms : List (List ℕ)) → Aired (w .fromGateway) (atGatewayThen w ms .fromGateway)
     unfolding arriveAtGateway next
@@ -70,9 +70,9 @@ module _ (b : Before) where
     by-device w (m ∷ ms) h r =
         let c : DeviceCall = given true true 0 m (deviceReply w) in
         let v : World = next (b .content) w (atDevice c) in
-        by-device (atGatewayThen v (deviceSays (w .end) c)) ms
-        (λ n i. gateway-said v (deviceSays (w .end) c) n (h n (List·Memᴰ·tail i)))
-        (at-gateway v (deviceSays (w .end) c) (λ n i. Memᴰ·append-left (w .fromDevice) i) (reached-next w (atDevice c) r (h m (List·Memᴰ·head refl))))
+        by-device (atGatewayThen v (deviceSays (w .deviceEnd) c)) ms
+        (λ n i. gateway-said v (deviceSays (w .deviceEnd) c) n (h n (List·Memᴰ·tail i)))
+        (at-gateway v (deviceSays (w .deviceEnd) c) (λ n i. Memᴰ·append-left (w .fromDevice) i) (reached-next w (atDevice c) r (h m (List·Memᴰ·head refl))))
 
     by-gateway : (w : World) (ms : List (List ℕ)) → Aired ms (w .fromDevice) → Reached b w
         → Reached b (answeredByGateway (b .content) deviceReply gatewayReply w ms)
@@ -99,7 +99,7 @@ module _ (b : Before) where
     unfolding deviceAsked next May
     device-asked w r =
         let c : DeviceCall = asked (deviceReply w) in
-        by-gateway (next (b .content) w (atDevice c)) (deviceSays (w .end) c) (λ n i. Memᴰ·append-left (w .fromDevice) i)
+        by-gateway (next (b .content) w (atDevice c)) (deviceSays (w .deviceEnd) c) (λ n i. Memᴰ·append-left (w .fromDevice) i)
         (reached-next w (atDevice c) r tt)
 
     pub until-silent : {w v : World} → UntilSilent (b .content) deviceReply gatewayReply w v → Reached b w → Reached b v

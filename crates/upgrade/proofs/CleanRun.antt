@@ -88,7 +88,7 @@ module _ (b : Before) (deviceReply gatewayReply : World → List ℕ) (c : Clean
         code-word = code-chosen (b .checked) (b .content) .0;
         code-passes = code-chosen (b .checked) (b .content) .1;
         idle = c .device-idle;
-        sound = run-fine (b .lived) _ (made-fine (b .running) (b .image) (b .map) (c .ready .device-made));
+        sound = run-fine (b .deviceCalls) _ (made-fine (b .running) (b .image) (b .map) (c .ready .device-made));
         another = same-swap _ _ (c .other-version);
         image-room = c .image-room;
         map-room = c .map-room;
@@ -97,7 +97,7 @@ module _ (b : Before) (deviceReply gatewayReply : World → List ℕ) (c : Clean
   at-start : At (start b) (deviceThen b) (gatewayIn setting gateway.offer)
   at-start =
       let first : Gateway = gateway.startOf (b .version) (b .size) (b .content) (b .checked) .gateway in
-      let unended : Unended first (gatewayThen b) = unended-after (b .content) first (b .asks) first (λ _. refl) in
+      let unended : Unended first (gatewayThen b) = unended-after (b .content) first (b .gatewayCalls) first (λ _. refl) in
       let offering : gatewayThen b .phase ≡ gateway.offer = c .ready .offering in
       record {
         end-is = refl;

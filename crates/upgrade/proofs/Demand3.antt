@@ -89,7 +89,7 @@ module _ (b : Before) (ready : Ready b) where
   offer-is : gateway.offered (gatewayThen b)
       ≡ gateway.offered (gateway.started (b .version) (b .size) (length (b .content)) (pick (b .checked) (checkOf (b .content)) 0))
   offer-is =
-      offer-then (b .content) (b .asks) _
+      offer-then (b .content) (b .gatewayCalls) _
       ∙ ap gateway.offered (starts (b .version) (b .size) (b .content) (b .checked) (ready .gateway-started) .made)
 
   some : 0 < gateway.offered (gatewayThen b) .size
@@ -120,7 +120,7 @@ module _ (b : Before) (ready : Ready b) where
   at-start : Inv [] (start b)
   at-start =
       let l : Lived (deviceThen b) (heldThen b) =
-      lived (b .lived) (made b) _ (lived-fresh (b .running) (b .image) (b .map) _ (ready .device-made)) in
+      lived (b .deviceCalls) (made b) _ (lived-fresh (b .running) (b .image) (b .map) _ (ready .device-made)) in
       record {
         offer = refl;
         run = untaken record {
@@ -162,7 +162,7 @@ module _ (b : Before) (ready : Ready b) where
 
   module _ {E I : Type 0} (w : World) where
     -- past the package the image is as at the start
-    past : Run plan w E I → drop (length (b .content)) (w .end .image) ≡ drop (length (b .content)) (deviceThen b .image)
+    past : Run plan w E I → drop (length (b .content)) (w .deviceEnd .image) ≡ drop (length (b .content)) (deviceThen b .image)
     past (untaken u) = ap (drop (length (b .content))) (u .image-kept)
     past (taken t) = t .past-kept
 
@@ -171,25 +171,25 @@ module _ (b : Before) (ready : Ready b) where
     success (taken t) q z = t .success q z
 
     -- a device that is full, and is given Execute, has the package
-    package-there : (c : DeviceCall) (condition : ℕ) → May w (atDevice c) → inputOf c ≡ hears condition (found execute) → Full (w .end .device)
-        → Run plan w E I → take (length (b .content)) (w .end .image) ≡ b .content
+    package-there : (c : DeviceCall) (condition : ℕ) → May w (atDevice c) → inputOf c ≡ hears condition (found execute) → Full (w .deviceEnd .device)
+        → Run plan w E I → take (length (b .content)) (w .deviceEnd .image) ≡ b .content
     package-there c condition m k full (untaken u) = absurd (device-hears w c (u .said) m condition execute k)
     package-there c condition m k full (taken t) =
-        let d : Device = w .end .device in
-        package-stands (b .content) d (w .end .image) (w .end .map)
+        let d : Device = w .deviceEnd .device in
+        package-stands (b .content) d (w .deviceEnd .image) (w .deviceEnd .map)
         (standing-under (Stretch plan) (λ index bytes. bytes ≡ take (d .fields .size) (drop (index * d .fields .size) (b .content)))
-        d (w .end .image) (w .end .map) (λ _ index bytes _ q. rw (t .fields-are) (q ∙ fragment-is (b .content) _ index)) (t .sound))
+        d (w .deviceEnd .image) (w .deviceEnd .map) (λ _ index bytes _ q. rw (t .fields-are) (q ∙ fragment-is (b .content) _ index)) (t .sound))
         (rw (t .fields-are) (rw total (total-covers (length (b .content)) _ some))) (full .0) (full .1) (full .2)
 
     answered-image : (c : Call) → Run plan w E I → May w c → Executed w c
-        → take (length (b .content)) (next (b .content) w c .end .image) ≡ b .content
+        → take (length (b .content)) (next (b .content) w c .deviceEnd .image) ≡ b .content
     unfolding next
     answered-image (atDevice (given supported pcp condition message reply)) r m x =
         let c : DeviceCall = given supported pcp condition message reply in
         let k : inputOf c ≡ hears condition (found execute) = ap (hears condition) (x .0) in
-        let a : Full (w .end .device) × (outIn (w .end) c .image ≡ w .end .image) =
-        answered (w .end) condition (inputOf c) k (outIn (w .end) c) (sym (says-is (w .end) c) ∙ x .1) (call-does (w .end) c) in
-        ap (λ (e : DeviceEnd). take (length (b .content)) (e .image)) (next-is (w .end) c) ∙ ap (take (length (b .content))) (a .1)
+        let a : Full (w .deviceEnd .device) × (outIn (w .deviceEnd) c .image ≡ w .deviceEnd .image) =
+        answered (w .deviceEnd) condition (inputOf c) k (outIn (w .deviceEnd) c) (sym (says-is (w .deviceEnd) c) ∙ x .1) (call-does (w .deviceEnd) c) in
+        ap (λ (e : DeviceEnd). take (length (b .content)) (e .image)) (next-is (w .deviceEnd) c) ∙ ap (take (length (b .content))) (a .1)
         ∙ package-there c condition m k (a .0) r
     answered-image (atDevice (asked reply)) r m x = absurd x
     answered-image (atDevice (installed code)) r m x = absurd x

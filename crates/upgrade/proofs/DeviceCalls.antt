@@ -13,7 +13,7 @@ use Rattle.message.specs.declared.Fields.{Fields}
 use Rattle.message.specs.Messages.{announceReply, toDevice}
 use Rattle.codec.specs.Codec.{readOf}
 use Rattle.device_record.specs.declared.Device.{Device}
-use Rattle.device_record.specs.Record.{idle, loading, loaded, acked, failed, installing, holding, inPhase, begun, ended, mapBytes}
+use Rattle.device_record.specs.Record.{idle, loading, loaded, acked, failed, installing, holding, inPhase, begun, withOutcome, mapBytes}
 use Rattle.bitmap.specs.Bitmap.{cleared}
 use Rattle.device.specs.Rules.{announceResult, completion}
 use Rattle.device.proofs.Views
@@ -56,8 +56,8 @@ storedAt e = storedOut (e .device) (e .image) (e .map)
 abbrev pub movedAt : DeviceEnd → (phase : ℕ) (says : List (List ℕ)) → Out
 movedAt e phase says = out 0 (inPhase phase (e .device)) (e .image) (e .map) says
 
-abbrev pub endedAt : DeviceEnd → (code : ℕ) (running : List ℕ) → Out
-endedAt e code running = out 0 (ended code running (e .device)) (e .image) (e .map) []
+abbrev pub outcomeAt : DeviceEnd → (code : ℕ) (running : List ℕ) → Out
+outcomeAt e code running = out 0 (withOutcome code running (e .device)) (e .image) (e .map) []
 
 -- ---- a call
 

@@ -22,7 +22,7 @@ use Rattle.gateway.specs.Record as gateway
 use Rattle.gateway.proofs.Package.{stretch-fits, stretch-within}
 use Rattle.upgrade.specs.Calls.{DeviceEnd, World}
 use Rattle.upgrade.proofs.Air.{Air, air-none, air-one, air-map, air-more}
-use Rattle.upgrade.proofs.DeviceCalls.{endOf, DoesAt, StillAt, BeginsAt, ResumesAt, StoresAt, stillAt, begunAt, storedAt, movedAt, endedAt, Moved, moves-to, holding-below, completion-low, other-version}
+use Rattle.upgrade.proofs.DeviceCalls.{endOf, DoesAt, StillAt, BeginsAt, ResumesAt, StoresAt, stillAt, begunAt, storedAt, movedAt, outcomeAt, Moved, moves-to, holding-below, completion-low, other-version}
 use Rattle.upgrade.proofs.Run.{Plan, SoundEnd, NotEnded, Offering, Stretch, RunsTarget, GatewaySaid, DeviceSaid, more-served, more-said, Untaken, Taken, Run, untaken, taken}
 
 -- P holds of the message that the input brings
@@ -31,7 +31,7 @@ Brought P input = (condition : ℕ) (m : DeviceMessage) → input ≡ hears cond
 
 -- the world after a call at the device
 abbrev pub with-device : World → DeviceEnd → (says : List (List ℕ)) → World
-with-device w e says = record { end = e; gateway = w .gateway; fromDevice = says ++ w .fromDevice; fromGateway = w .fromGateway }
+with-device w e says = record { deviceEnd = e; gateway = w .gateway; fromDevice = says ++ w .fromDevice; fromGateway = w .fromGateway }
 
 -- ---- what is said where nothing changes
 
@@ -90,7 +90,7 @@ package-past p f image index bytes e room below stretch =
 
 module _ (p : Plan) (w : World) {E E′ I I′ : Type 0} (j : E → E′) (k : I → I′) where
   abbrev e : DeviceEnd
-  e = w .end
+  e = w .deviceEnd
 
   abbrev After : DeviceEnd → (says : List (List ℕ)) → Type 0
   After e′ says = Run p (with-device w e′ says) E′ I′
@@ -172,7 +172,7 @@ module _ (p : Plan) (w : World) {E E′ I I′ : Type 0} (j : E → E′) (k : I
         before (inl q) h = absurd (false≢true (ap holding (sym q) ∙ h))
         before (inr (_, q)) h = ap holding q
 
-    reports-untaken : (code : ℕ) (running : List ℕ) → e .device .phase ≡ installing → Next (endedAt e code running)
+    reports-untaken : (code : ℕ) (running : List ℕ) → e .device .phase ≡ installing → Next (outcomeAt e code running)
     unfolding Next holding
     reports-untaken code running q =
         not-taken _ [] refl refl (λ r. absurd (r .1 q)) (λ h. absurd (false≢true h)) (air-none toGateway)
@@ -262,7 +262,7 @@ module _ (p : Plan) (w : World) {E E′ I I′ : Type 0} (j : E → E′) (k : I
         stays-taken _ _ (t .fields-are) (λ _. x) (λ q. absurd (omega (arith, q))) (t .past-kept) (air-one toGateway (executeReply 0x00) tt)
 
     reports-taken : (code : ℕ) (running : List ℕ) → e .device .phase ≡ installing → (code ≡ 0x00 → E → NotEnded (w .gateway) → I′)
-        → Then (endedAt e code running)
+        → Then (outcomeAt e code running)
     unfolding Then
     reports-taken code running l x =
         stays-taken _ [] (t .fields-are) (λ q. absurd (omega (arith, q))) (λ _ z. x z (t .installs l)) (t .past-kept) (air-none toGateway)

@@ -115,7 +115,7 @@ module _ (p : Plan) (w : World) (c : GatewayCall) (o : gateway.offered (w .gatew
       air-more toDevice more (w .fromGateway)
       (air-map toDevice (said-so p (w .gateway) turned (heardIn c) o k) more (gateway-said (p .content) (w .gateway) c)) said
 
-  pub untaken-turn : Untaken p w → Heard toGateway (DeviceSaid p ⊥ (RunsTarget p (w .end .device))) (heardIn c)
+  pub untaken-turn : Untaken p w → Heard toGateway (DeviceSaid p ⊥ (RunsTarget p (w .deviceEnd .device))) (heardIn c)
       → Untaken p (next (p .content) w (atGateway c))
   unfolding next
   untaken-turn u k =

@@ -19,7 +19,7 @@ use Rattle.device.specs.Rules.{After, announceResult, resumes, receiveOf, nextM
 use Rattle.device.proofs.Holds.{Rule}
 use Rattle.device.proofs.Views
 use Rattle.device.proofs.Views.{receive-does, install-does}
-use Rattle.device.proofs.Sound.{Download, Sound, sound-record, sound-room, sound-under, sound-begun, sound-stored, sound-idle, sound-moved, sound-executed, sound-ended, sound-does}
+use Rattle.device.proofs.Sound.{Download, Sound, sound-record, sound-room, sound-under, sound-begun, sound-stored, sound-idle, sound-moved, sound-executed, sound-outcome, sound-does}
 use Rattle.device.proofs.Numbers.{heard-most, ask-neither, install-neither}
 use Rattle.device_record.proofs.Guarded.{asking-passed, receiving-passed}
 
@@ -114,7 +114,7 @@ kept-does d image map input o (Views.moves phase m e) room k =
 kept-does d image map input o (Views.executes condition i p e) room k =
     rw e (record { image = k .image; sound = sound-executed free d (k .image) map p (k .sound) })
 kept-does d image map input o (Views.reports code i p c e) room k =
-    rw e (record { image = k .image; sound = sound-ended free d (k .image) map code p c (k .sound) })
+    rw e (record { image = k .image; sound = sound-outcome free d (k .image) map code p c (k .sound) })
 
 pub kept-given : (d : Device) (image map reply : List ℕ) (supported pcp : Bool) (condition : ℕ) (message : List ℕ) → Kept d map
     → let a : After = receiveOf d image map reply supported pcp condition message in

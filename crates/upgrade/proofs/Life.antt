@@ -19,7 +19,7 @@ use Rattle.device_record.specs.Record.{idle, loaded, acked, fresh, newOf}
 use Rattle.device.specs.Rules.{announceResult, resumes}
 use Rattle.device.proofs.Views
 use Rattle.device.proofs.Views.{Input, hears, asks, installs, Out}
-use Rattle.device.proofs.Sound.{sound-fresh, sound-begun, sound-stored, sound-moved, sound-executed, sound-ended}
+use Rattle.device.proofs.Sound.{sound-fresh, sound-begun, sound-stored, sound-moved, sound-executed, sound-outcome}
 use Rattle.device.proofs.Standing.{standing, standing-under, stored-new}
 use Rattle.upgrade.specs.Fold.{after}
 use Rattle.upgrade.specs.Calls.{DeviceEnd, DeviceCall, given, asked, installed, deviceNext}
@@ -181,7 +181,7 @@ module _ (e : DeviceEnd) (h : Held) (l : Lived e h) (input : Input) where
   lived-does o (Views.reports code i p ok q) =
       subst Then (sym q)
       (lived-on _ (held-installs e 0 code input h i) refl (λ _ r. omega arith)
-      (sound-ended (standing (Among (h .fragments))) (e .device) (e .image) (e .map) code p ok (l .sound)))
+      (sound-outcome (standing (Among (h .fragments))) (e .device) (e .image) (e .map) code p ok (l .sound)))
 
 pub lived : (cs : List DeviceCall) (e : DeviceEnd) (h : Held) → Lived e h → Lived (after deviceNext e cs) (heldAfter e h cs)
 unfolding heldAfter

@@ -90,22 +90,22 @@ module _ (p : Plan) where
     pub record Untaken : Type 0 where
       pub offering : Offering (w .gateway)
       pub said : Air toDevice (GatewaySaid ⊥) (w .fromGateway)
-      pub heard : Air toGateway (DeviceSaid ⊥ (RunsTarget (w .end .device))) (w .fromDevice)
-      pub sound : SoundEnd (p .Held) (w .end)
-      pub resumable : holding (w .end .device .phase) ≡ true → w .end .device .fields ≡ p .offer
+      pub heard : Air toGateway (DeviceSaid ⊥ (RunsTarget (w .deviceEnd .device))) (w .fromDevice)
+      pub sound : SoundEnd (p .Held) (w .deviceEnd)
+      pub resumable : holding (w .deviceEnd .device .phase) ≡ true → w .deviceEnd .device .fields ≡ p .offer
           → (index : ℕ) (bytes : List ℕ) → p .Held index bytes → Stretch index bytes
-      pub image-kept : w .end .image ≡ p .image
+      pub image-kept : w .deviceEnd .image ≡ p .image
 
     -- after it
     pub record Taken (executed installed : Type 0) : Type 0 where
       pub said : Air toDevice (GatewaySaid (Unit {0})) (w .fromGateway)
       pub heard : Air toGateway (DeviceSaid (Unit {0}) (NotEnded (w .gateway) → installed)) (w .fromDevice)
-      pub fields-are : w .end .device .fields ≡ p .offer
-      pub sound : SoundEnd Stretch (w .end)
-      pub installs : w .end .device .phase ≡ installing → executed
-      pub reports : w .end .device .phase ≡ reporting → w .end .device .outcome ≡ 0x00 → NotEnded (w .gateway) → installed
+      pub fields-are : w .deviceEnd .device .fields ≡ p .offer
+      pub sound : SoundEnd Stretch (w .deviceEnd)
+      pub installs : w .deviceEnd .device .phase ≡ installing → executed
+      pub reports : w .deviceEnd .device .phase ≡ reporting → w .deviceEnd .device .outcome ≡ 0x00 → NotEnded (w .gateway) → installed
       pub success : w .gateway .phase ≡ gateway.ended → w .gateway .ending ≡ 0 → installed
-      pub past-kept : drop (length (p .content)) (w .end .image) ≡ drop (length (p .content)) (p .image)
+      pub past-kept : drop (length (p .content)) (w .deviceEnd .image) ≡ drop (length (p .content)) (p .image)
 
     pub data Run (executed installed : Type 0) : Type 0 where
       untaken : Untaken → Run executed installed

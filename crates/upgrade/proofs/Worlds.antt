@@ -38,14 +38,14 @@ module _ (w : World) where
   -- ---- the two events
 
   is-executed : (c : DeviceCall) (condition : ℕ) → inputOf c ≡ hears condition (found execute)
-      → outIn (w .end) c .says ≡ spoken (executeReply 0x00) → Executed w (atDevice c)
+      → outIn (w .deviceEnd) c .says ≡ spoken (executeReply 0x00) → Executed w (atDevice c)
   is-executed (given supported pcp condition message reply) k i s =
       let r : readOf toDevice supported pcp message ≡ found execute = cc in
-      (r, says-is (w .end) (given supported pcp condition message reply) ∙ s)
+      (r, says-is (w .deviceEnd) (given supported pcp condition message reply) ∙ s)
   is-executed (asked reply) k i s = absurd (let z : _≡_ {A = ℕ} 0 1 = cc in omega arith)
   is-executed (installed code) k i s = absurd (let z : _≡_ {A = ℕ} 0 1 = cc in omega arith)
 
-  is-installed : (c : DeviceCall) → inputOf c ≡ installs 0x00 → outIn (w .end) c .number ≡ 0 → Installed w (atDevice c)
+  is-installed : (c : DeviceCall) → inputOf c ≡ installs 0x00 → outIn (w .deviceEnd) c .number ≡ 0 → Installed w (atDevice c)
   is-installed (given supported pcp condition message reply) i n = absurd (let z : _≡_ {A = ℕ} 0 1 = cc in omega arith)
   is-installed (asked reply) i n = absurd (let z : _≡_ {A = ℕ} 0 1 = cc in omega arith)
   is-installed (installed code) i n = (let r : code ≡ 0x00 = cc in r, n)
@@ -63,9 +63,9 @@ module _ (p : Plan) (w : World) where
       → Run p (next (p .content) w (atDevice c)) E′ I′
   unfolding next
   device-keeps c j k x y m (untaken u) =
-      rw (next-is (w .end) c, says-is (w .end) c)
-      (untaken-does p w j k u (inputOf c) (outIn (w .end) c) (device-hears w c (u .said) m) (call-does (w .end) c))
+      rw (next-is (w .deviceEnd) c, says-is (w .deviceEnd) c)
+      (untaken-does p w j k u (inputOf c) (outIn (w .deviceEnd) c) (device-hears w c (u .said) m) (call-does (w .deviceEnd) c))
   device-keeps c j k x y m (taken t) =
-      rw (next-is (w .end) c, says-is (w .end) c)
-      (taken-does p w j k t (inputOf c) (outIn (w .end) c) (device-hears w c (t .said) m)
-      (λ condition i s. x (is-executed w c condition i s)) (λ i n. y (is-installed w c i n)) (call-does (w .end) c))
+      rw (next-is (w .deviceEnd) c, says-is (w .deviceEnd) c)
+      (taken-does p w j k t (inputOf c) (outIn (w .deviceEnd) c) (device-hears w c (t .said) m)
+      (λ condition i s. x (is-executed w c condition i s)) (λ i n. y (is-installed w c i n)) (call-does (w .deviceEnd) c))

@@ -70,7 +70,7 @@ module _ (content : List ℕ) where
 -- ---- both ends, and what each has put on the air
 
 pub record World : Type 0 where
-  pub end : DeviceEnd
+  pub deviceEnd : DeviceEnd
   pub gateway : Gateway
   pub fromDevice : List (List ℕ)
   pub fromGateway : List (List ℕ)
@@ -82,14 +82,14 @@ pub data Call : Type 0 where
 unfoldable pub next : (content : List ℕ) → World → Call → World
 next content w (atDevice c) =
     record {
-      end = deviceNext (w .end) c;
+      deviceEnd = deviceNext (w .deviceEnd) c;
       gateway = w .gateway;
-      fromDevice = deviceSays (w .end) c ++ w .fromDevice;
+      fromDevice = deviceSays (w .deviceEnd) c ++ w .fromDevice;
       fromGateway = w .fromGateway;
     }
 next content w (atGateway c) =
     record {
-      end = w .end;
+      deviceEnd = w .deviceEnd;
       gateway = gatewayNext content (w .gateway) c;
       fromDevice = w .fromDevice;
       fromGateway = gatewaySays content (w .gateway) c ++ w .fromGateway;

@@ -29,7 +29,7 @@ module _ (content : List ℕ) (deviceReply gatewayReply : World → List ℕ) wh
   answeredByDevice w [] = w
   answeredByDevice w (m ∷ ms) =
       let c : DeviceCall = given true true 0 m (deviceReply w) in
-      answeredByDevice (arriveAtGateway (next content w (atDevice c)) (deviceSays (w .end) c)) ms
+      answeredByDevice (arriveAtGateway (next content w (atDevice c)) (deviceSays (w .deviceEnd) c)) ms
 
   unfoldable pub answeredByGateway : World → List (List ℕ) → World
   answeredByGateway w [] = w
@@ -46,11 +46,11 @@ module _ (content : List ℕ) (deviceReply gatewayReply : World → List ℕ) wh
   unfoldable pub deviceAsked : World → World
   deviceAsked w =
       let c : DeviceCall = asked (deviceReply w) in
-      answeredByGateway (next content w (atDevice c)) (deviceSays (w .end) c)
+      answeredByGateway (next content w (atDevice c)) (deviceSays (w .deviceEnd) c)
 
   -- the number with which the device answers an ask
   abbrev pub askedNumber : World → ℕ
-  askedNumber w = nextMessageOf (w .end .device) (w .end .image) (w .end .map) (deviceReply w) .number
+  askedNumber w = nextMessageOf (w .deviceEnd .device) (w .deviceEnd .image) (w .deviceEnd .map) (deviceReply w) .number
 
   -- the device is asked until it has nothing to send, which is 9
   pub data UntilSilent : World → World → Type 0 where

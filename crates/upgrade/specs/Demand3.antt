@@ -19,25 +19,25 @@ pub record Before : Type 0 where
   pub running : List ℕ
   pub image : List ℕ
   pub map : List ℕ
-  pub lived : List DeviceCall
+  pub deviceCalls : List DeviceCall
   pub version : List ℕ
   pub size : ℕ
   pub content : List ℕ
   pub checked : Bool
-  pub asks : List GatewayCall
+  pub gatewayCalls : List GatewayCall
 
 module _ (b : Before) where
   abbrev pub made : DeviceEnd
   made = record { device = newOf (b .running) .device; image = b .image; map = b .map }
 
   abbrev pub deviceThen : DeviceEnd
-  deviceThen = after deviceNext made (b .lived)
+  deviceThen = after deviceNext made (b .deviceCalls)
 
   abbrev pub gatewayThen : Gateway
-  gatewayThen = after (gatewayNext (b .content)) (gateway.startOf (b .version) (b .size) (b .content) (b .checked) .gateway) (b .asks)
+  gatewayThen = after (gatewayNext (b .content)) (gateway.startOf (b .version) (b .size) (b .content) (b .checked) .gateway) (b .gatewayCalls)
 
   abbrev pub heldThen : Held
-  heldThen = heldAfter made (record { fields = made .device .fields; fragments = [] }) (b .lived)
+  heldThen = heldAfter made (record { fields = made .device .fields; fragments = [] }) (b .deviceCalls)
 
   -- If the announcement that zeroed the map carried this gateway's four fields, each fragment held is the package's for its index.
   abbrev pub HeldIsPackage : Type 0
@@ -54,7 +54,7 @@ module _ (b : Before) where
 
   -- The start: nothing is on the air.
   abbrev pub start : World
-  start = record { end = deviceThen; gateway = gatewayThen; fromDevice = []; fromGateway = [] }
+  start = record { deviceEnd = deviceThen; gateway = gatewayThen; fromDevice = []; fromGateway = [] }
 
   abbrev pub worldAfter : List Call → World
   worldAfter calls = after (next (b .content)) start calls
@@ -63,7 +63,7 @@ module _ (b : Before) where
 abbrev pub Executed : World → Call → Type 0
 Executed w (atDevice (given supported pcp condition message reply)) =
     (readOf toDevice supported pcp message ≡ found execute)
-    × (deviceSays (w .end) (given supported pcp condition message reply) ≡ bytesOf toGateway (executeReply 0x00) ∷ [])
+    × (deviceSays (w .deviceEnd) (given supported pcp condition message reply) ≡ bytesOf toGateway (executeReply 0x00) ∷ [])
 Executed w (atDevice (asked reply)) = ⊥
 Executed w (atDevice (installed code)) = ⊥
 Executed w (atGateway c) = ⊥
@@ -72,7 +72,7 @@ Executed w (atGateway c) = ⊥
 abbrev pub Installed : World → Call → Type 0
 Installed w (atDevice (given supported pcp condition message reply)) = ⊥
 Installed w (atDevice (asked reply)) = ⊥
-Installed w (atDevice (installed code)) = (code ≡ 0x00) × (device.installFinishedOf (w .end .device) code .number ≡ 0)
+Installed w (atDevice (installed code)) = (code ≡ 0x00) × (device.installFinishedOf (w .deviceEnd .device) code .number ≡ 0)
 Installed w (atGateway c) = ⊥
 
 module _ (b : Before) (calls : List Call) where
@@ -82,8 +82,8 @@ module _ (b : Before) (calls : List Call) where
   ExecutedImage =
       (earlier : List Call) (last : Call) → calls ≡ earlier ++ (last ∷ []) → Executed (worldAfter b earlier) last →
       let n : ℕ = length (b .content) in
-      (take n (worldAfter b calls .end .image) ≡ b .content)
-      × ((some rest : List Call) → calls ≡ some ++ rest → drop n (worldAfter b some .end .image) ≡ drop n (deviceThen b .image))
+      (take n (worldAfter b calls .deviceEnd .image) ≡ b .content)
+      × ((some rest : List Call) → calls ≡ some ++ rest → drop n (worldAfter b some .deviceEnd .image) ≡ drop n (deviceThen b .image))
 
   -- An earlier call brought that reply; after it, and before the gateway ended, an installer's end with 00 was answered 0.
   pub record InstalledBefore : Type 0 where

@@ -14,12 +14,12 @@ returns : tie.Need-returns
 unfolding installFinishedOf
 returns c = rw (← c .before .finishing .ensures) (sym (pick-no _ _ _ (ne-eqb _ 0 (c .if1 .taken))))
 
-ended-requires : tie.Need-ended-requires
-ended-requires c κs = search needs
+with-outcome-requires : tie.Need-with-outcome-requires
+with-outcome-requires c κs = search needs
 
 returns-2 : tie.Need-returns-2
 unfolding installFinishedOf
-returns-2 c = rw (c .ended .ensures, ← c .before .before .finishing .ensures) (sym (pick-yes _ _ _ (eq-eqb _ 0 (c .before .if1 .left))))
+returns-2 c = rw (c .with-outcome .ensures, ← c .before .before .finishing .ensures) (sym (pick-yes _ _ _ (eq-eqb _ 0 (c .before .if1 .left))))
 
 pub install-finished-spec : {M : Type 1} → statement M
-install-finished-spec = tie.close (tie.spec finishing-requires returns ended-requires returns-2)
+install-finished-spec = tie.close (tie.spec finishing-requires returns with-outcome-requires returns-2)
