@@ -27,7 +27,7 @@ use Rattle.gateway.specs.Record.{startOf}
 use Rattle.gateway.specs.Coded as coded
 use Rattle.gateway.specs.Rules as gateway
 use Rattle.layout.specs.Layout.{deviceAt, deviceBytes, deviceLength, gatewayAt, gatewayBytes, gatewayLength, kept}
-use Rattle.host.specs.Exports.{fact, shortRecord, packed, textOf, Kept, Asked, DeviceGiven, GatewayGiven, asked, deviceNewOf, deviceReceiveOf, deviceNextMessageOf, deviceInstallFinishedOf, deviceKept, gatewayKept, gatewayStartOf, gatewayReceiveOf, gatewayNextMessageOf}
+use Rattle.host.specs.Exports.{fact, shortRecord, packed, textOf, Left, Asked, DeviceGiven, GatewayGiven, asked, deviceNewOf, deviceReceiveOf, deviceNextMessageOf, deviceInstallFinishedOf, deviceKept, gatewayKept, gatewayStartOf, gatewayReceiveOf, gatewayNextMessageOf}
 use Rattle.host.proofs.Fits.{device-reply-short, device-ask-short, gateway-reply-fits, gateway-ask-fits}
 
 -- ---- a record buffer that is too short, and one that is not
@@ -43,7 +43,7 @@ module _ {A : Type 0} (room : ℕ) (bytes : List ℕ) (a b : A) where
 
 module _ (bytes after : List ℕ) (room : deviceLength ≤ length bytes) where
   pub device-made : (version text : List ℕ) (m : Made) → text ≡ textOf version → m ≡ newOf text → after ≡ deviceKept bytes (m .number) (m .device)
-      → _≡_ {A = Kept} (record { answer = m .number; bytes = after }) (deviceNewOf bytes version)
+      → _≡_ {A = Left} (record { answer = m .number; bytes = after }) (deviceNewOf bytes version)
   unfolding deviceNewOf
   device-made version text m t e k =
       (λ i. record { answer = m .number; bytes = k i })
@@ -52,7 +52,7 @@ module _ (bytes after : List ℕ) (room : deviceLength ≤ length bytes) where
 
   pub device-finished : (d : Device) (code : ℕ) (f : Finished) → d ≡ deviceAt bytes → f ≡ device.installFinishedOf d code
       → after ≡ deviceKept bytes (f .number) (f .device)
-      → _≡_ {A = Kept} (record { answer = f .number; bytes = after }) (deviceInstallFinishedOf bytes code)
+      → _≡_ {A = Left} (record { answer = f .number; bytes = after }) (deviceInstallFinishedOf bytes code)
   unfolding deviceInstallFinishedOf
   device-finished d code f at e k =
       (λ i. record { answer = f .number; bytes = k i })
@@ -107,7 +107,7 @@ module _ (bytes image map reply : List ℕ) (d : Device) (at : d ≡ deviceAt by
 module _ (bytes after : List ℕ) (room : gatewayLength ≤ length bytes) where
   pub gateway-started : (version text content : List ℕ) (size checked : ℕ) (s : Started) → text ≡ textOf version
       → s ≡ startOf text size content (fact checked) → after ≡ gatewayKept bytes (s .number) (s .gateway)
-      → _≡_ {A = Kept} (record { answer = s .number; bytes = after }) (gatewayStartOf bytes version size content checked)
+      → _≡_ {A = Left} (record { answer = s .number; bytes = after }) (gatewayStartOf bytes version size content checked)
   unfolding gatewayStartOf
   gateway-started version text content size checked s t e k =
       (λ i. record { answer = s .number; bytes = k i })

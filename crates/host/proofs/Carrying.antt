@@ -26,8 +26,9 @@ use Rattle.gateway.specs.Record.{startOf}
 use Rattle.gateway.specs.Rules as gateway
 use Rattle.layout.specs.Layout.{kept, deviceAt, deviceBytes, deviceLength, gatewayAt, gatewayBytes, gatewayLength}
 use Rattle.layout.proofs.Layouts.{kept-new}
-use Rattle.layout.proofs.Identity.{device-kept, gateway-kept}
-use Rattle.host.specs.Exports.{fact, textOf, Kept, DeviceGiven, GatewayGiven, deviceNewOf, deviceReceiveOf, deviceInstallFinishedOf, deviceKept, gatewayKept, gatewayStartOf, gatewayReceiveOf}
+use Rattle.layout.specs.Identity.{DeviceTexts}
+use Rattle.layout.proofs.Identity.{identity}
+use Rattle.host.specs.Exports.{fact, textOf, Left, DeviceGiven, GatewayGiven, deviceNewOf, deviceReceiveOf, deviceInstallFinishedOf, deviceKept, gatewayKept, gatewayStartOf, gatewayReceiveOf}
 use Rattle.host.specs.Boundary.{Carried}
 use Rattle.host.proofs.Refusals.{DeviceOutcome, device-outcome, GatewayOutcome, gateway-outcome, done, declined}
 
@@ -41,10 +42,6 @@ text-length : (v : List ℕ) → length (textOf v) ≡ 16
 unfolding textOf
 text-length v = by-cases (λ (l : List ℕ). length l ≡ 16) (λ _. length-part v 0 16) (λ _. refl)
 
-pub record Sized (d : Device) : Type 0 where
-  pub running : length (d .running) ≡ 16
-  pub target : length (d .fields .version) ≡ 16
-
 abbrev Valid : Reading DeviceMessage → Type 0
 Valid (found m) = deviceValid m ≡ true
 Valid (refused n) = Unit {0}
@@ -56,45 +53,45 @@ read-valid supported pcp bytes = at (readOf toDevice supported pcp bytes) refl
     at (found m) e = device-round-trip .read-valid supported pcp bytes m e
     at (refused n) e = tt
 
-module _ (d : Device) (image map reply : List ℕ) (s : Sized d) where
+module _ (d : Device) (image map reply : List ℕ) (s : DeviceTexts d) where
   P : device.After → Type 0
-  P a = Sized (a .device)
+  P a = DeviceTexts (a .device)
 
   -- the same two texts
-  same : (e : Device) → e .running ≡ d .running → e .fields ≡ d .fields → Sized e
+  same : (e : Device) → e .running ≡ d .running → e .fields ≡ d .fields → DeviceTexts e
   same e r f = record { running = rw r (s .running); target = rw f (s .target) }
 
-  handled-sized : (condition : ℕ) (r : Reading DeviceMessage) → Valid r → P (device.handle d image map reply condition r)
+  handled-texts : (condition : ℕ) (r : Reading DeviceMessage) → Valid r → P (device.handle d image map reply condition r)
   unfolding P device.handle device.onQuery device.onAnnounce device.begin device.onFragment device.store device.onDownloadReply device.onExecute device.onResultReply deviceValid
-  handled-sized condition (refused n) v = s
-  handled-sized condition (found query) v = s
-  handled-sized condition (found (announce f)) v =
+  handled-texts condition (refused n) v = s
+  handled-texts condition (found query) v = s
+  handled-texts condition (found (announce f)) v =
       by-cases P
       (λ _. by-cases P (λ _. s)
       (λ _. record { running = s .running; target = good-length (f .version) (and-left (goodVersion (f .version)) _ v) }))
       (λ _. s)
-  handled-sized condition (found (fragment result index bytes)) v =
+  handled-texts condition (found (fragment result index bytes)) v =
       by-cases P
       (λ _. by-cases P (λ _. same _ refl refl)
       (λ _. by-cases P (λ _. s)
       (λ _. by-cases P (λ _. s)
       (λ _. by-cases P (λ _. by-cases P (λ _. s) (λ _. same _ refl refl)) (λ _. s)))))
       (λ _. s)
-  handled-sized condition (found (downloadReply result)) v =
+  handled-texts condition (found (downloadReply result)) v =
       by-cases P (λ _. same _ refl refl) (λ _. by-cases P (λ _. same _ refl refl) (λ _. s))
-  handled-sized condition (found execute) v = by-cases Sized (λ _. same _ refl refl) (λ _. s)
-  handled-sized condition (found (resultReply result)) v = by-cases P (λ _. same _ refl refl) (λ _. s)
+  handled-texts condition (found execute) v = by-cases DeviceTexts (λ _. same _ refl refl) (λ _. s)
+  handled-texts condition (found (resultReply result)) v = by-cases P (λ _. same _ refl refl) (λ _. s)
 
-  received-sized : (supported pcp : Bool) (condition : ℕ) (message : List ℕ) → Sized (device.receiveOf d image map reply supported pcp condition message .device)
+  received-texts : (supported pcp : Bool) (condition : ℕ) (message : List ℕ) → DeviceTexts (device.receiveOf d image map reply supported pcp condition message .device)
   unfolding P device.receiveOf
-  received-sized supported pcp condition message =
-      by-cases P (λ _. handled-sized condition (readOf toDevice supported pcp message) (read-valid supported pcp message)) (λ _. s)
+  received-texts supported pcp condition message =
+      by-cases P (λ _. handled-texts condition (readOf toDevice supported pcp message) (read-valid supported pcp message)) (λ _. s)
 
 module _ (d : Device) where
-  finished-sized : Sized d → (code : ℕ) → Sized (device.installFinishedOf d code .device)
+  finished-texts : DeviceTexts d → (code : ℕ) → DeviceTexts (device.installFinishedOf d code .device)
   unfolding device.installFinishedOf
-  finished-sized s code =
-      by-cases (λ (f : Finished). Sized (f .device))
+  finished-texts s code =
+      by-cases (λ (f : Finished). DeviceTexts (f .device))
       (λ _. record { running = by-cases (λ (v : List ℕ). length v ≡ 16) (λ _. s .target) (λ _. s .running); target = s .target })
       (λ _. s)
 
@@ -104,9 +101,9 @@ module _ (d : Device) where
   finished-refused code =
       by-cases (λ (f : Finished). (f .number ≡ 0 → ⊥) → f .device ≡ d) (λ _ h. absurd (h refl)) (λ _ _. refl)
 
-at-sized : (bytes : List ℕ) → Sized (deviceAt bytes)
+at-texts : (bytes : List ℕ) → DeviceTexts (deviceAt bytes)
 unfolding deviceAt
-at-sized bytes = record { running = length-part bytes 1 16; target = length-part bytes 17 16 }
+at-texts bytes = record { running = length-part bytes 1 16; target = length-part bytes 17 16 }
 
 received-refused : (d : Device) (image map reply : List ℕ) (a : device.After) → DeviceOutcome d image map reply a → (a .number ≡ 0 → ⊥) → a .device ≡ d
 received-refused d image map reply a (done e) h = absurd (h e)
@@ -118,17 +115,17 @@ module _ (n : ℕ) (bytes : List ℕ) where
   not-zero : (room : ℕ) → room ≤ length bytes → (eqb n 0 && leb room (length bytes)) ≡ false → n ≡ 0 → ⊥
   not-zero room h f z = true≢false (sym (and-both (eq-eqb n 0 z) (le-leb room (length bytes) h)) ∙ f)
 
-  carried : (e : Device) → deviceLength ≤ length bytes → Sized e → ((n ≡ 0 → ⊥) → e ≡ deviceAt bytes) → deviceAt (deviceKept bytes n e) ≡ e
+  carried : (e : Device) → deviceLength ≤ length bytes → DeviceTexts e → ((n ≡ 0 → ⊥) → e ≡ deviceAt bytes) → deviceAt (deviceKept bytes n e) ≡ e
   unfolding kept
   carried e room s h =
-      by-cases (λ (l : List ℕ). deviceAt l ≡ e) (λ _. device-kept e bytes (s .running) (s .target))
+      by-cases (λ (l : List ℕ). deviceAt l ≡ e) (λ _. identity .device-kept e bytes s)
       (λ f. sym (h (not-zero deviceLength room f)))
 
   gateway-carried : (e : Gateway) → gatewayLength ≤ length bytes → length (e .version) ≡ 16 → ((n ≡ 0 → ⊥) → e ≡ gatewayAt bytes)
       → gatewayAt (gatewayKept bytes n e) ≡ e
   unfolding kept
   gateway-carried e room s h =
-      by-cases (λ (l : List ℕ). gatewayAt l ≡ e) (λ _. gateway-kept e bytes s) (λ f. sym (h (not-zero gatewayLength room f)))
+      by-cases (λ (l : List ℕ). gatewayAt l ≡ e) (λ _. identity .gateway-kept e bytes s) (λ f. sym (h (not-zero gatewayLength room f)))
 
 -- ---- the gateway's text stays
 
@@ -158,21 +155,21 @@ module _ (g : Gateway) (content reply : List ℕ) where
   gateway-refused a (done e) h = absurd (h e)
   gateway-refused a (declined n small e) h = ap (λ (a : gateway.After). a .gateway) e
 
-gateway-at-sized : (bytes : List ℕ) → length (gatewayAt bytes .version) ≡ 16
+gateway-at-text : (bytes : List ℕ) → length (gatewayAt bytes .version) ≡ 16
 unfolding gatewayAt
-gateway-at-sized bytes = length-part bytes 2 16
+gateway-at-text bytes = length-part bytes 2 16
 
 -- ---- every call
 
-made-sized : (version : List ℕ) → length version ≡ 16 → Sized (newOf version .device)
+made-texts : (version : List ℕ) → length version ≡ 16 → DeviceTexts (newOf version .device)
 unfolding newOf
-made-sized version e =
-    by-cases (λ (m : Made). Sized (m .device)) (λ _. record { running = e; target = e }) (λ _. record { running = refl; target = refl })
+made-texts version e =
+    by-cases (λ (m : Made). DeviceTexts (m .device)) (λ _. record { running = e; target = e }) (λ _. record { running = refl; target = refl })
 
-started-sized : (version : List ℕ) (size : ℕ) (content : List ℕ) (checked : Bool) → length version ≡ 16
+started-text : (version : List ℕ) (size : ℕ) (content : List ℕ) (checked : Bool) → length version ≡ 16
     → length (startOf version size content checked .gateway .version) ≡ 16
 unfolding startOf
-started-sized version size content checked e =
+started-text version size content checked e =
     by-cases (λ (s : Started). length (s .gateway .version) ≡ 16) (λ _. e) (λ _. refl)
 
 -- where there is room, a call is not refused with 64
@@ -184,21 +181,21 @@ unfolding deviceNewOf deviceReceiveOf deviceInstallFinishedOf gatewayStartOf gat
 records-carried =
     record {
       device-new = λ bytes version room e.
-          with-room (λ (k : Kept). deviceAt (k .bytes) ≡ newOf (textOf version) .device) deviceLength bytes _ _ room
-          (carried _ bytes _ room (made-sized (textOf version) (text-length version)) (λ h. absurd (h e)));
+          with-room (λ (k : Left). deviceAt (k .bytes) ≡ newOf (textOf version) .device) deviceLength bytes _ _ room
+          (carried _ bytes _ room (made-texts (textOf version) (text-length version)) (λ h. absurd (h e)));
       device-receive = λ bytes image map reply supported pcp condition message room.
           with-room (λ (g : DeviceGiven). deviceAt (g .bytes) ≡ device.receiveOf (deviceAt bytes) image map reply (fact supported) (fact pcp) condition message .device) deviceLength bytes _ _ room
-          (carried _ bytes _ room (received-sized (deviceAt bytes) image map reply (at-sized bytes) _ _ condition message)
+          (carried _ bytes _ room (received-texts (deviceAt bytes) image map reply (at-texts bytes) _ _ condition message)
           (received-refused (deviceAt bytes) image map reply _ (device-outcome (deviceAt bytes) image map reply _ _ condition message)));
       device-install-finished = λ bytes code room.
-          with-room (λ (k : Kept). deviceAt (k .bytes) ≡ device.installFinishedOf (deviceAt bytes) code .device) deviceLength bytes _ _ room
-          (carried _ bytes _ room (finished-sized (deviceAt bytes) (at-sized bytes) code)
+          with-room (λ (k : Left). deviceAt (k .bytes) ≡ device.installFinishedOf (deviceAt bytes) code .device) deviceLength bytes _ _ room
+          (carried _ bytes _ room (finished-texts (deviceAt bytes) (at-texts bytes) code)
           (finished-refused (deviceAt bytes) code));
       gateway-start = λ bytes version size content checked room e.
-          with-room (λ (k : Kept). gatewayAt (k .bytes) ≡ startOf (textOf version) size content (fact checked) .gateway) gatewayLength bytes _ _ room
-          (gateway-carried _ bytes _ room (started-sized (textOf version) size content _ (text-length version)) (λ h. absurd (h e)));
+          with-room (λ (k : Left). gatewayAt (k .bytes) ≡ startOf (textOf version) size content (fact checked) .gateway) gatewayLength bytes _ _ room
+          (gateway-carried _ bytes _ room (started-text (textOf version) size content _ (text-length version)) (λ h. absurd (h e)));
       gateway-receive = λ bytes content reply supported pcp message room.
           with-room (λ (g : GatewayGiven). gatewayAt (g .bytes) ≡ gateway.receiveOf (gatewayAt bytes) content reply (fact supported) (fact pcp) message .gateway) gatewayLength bytes _ _ room
-          (gateway-carried _ bytes _ room (ap length (received-version (gatewayAt bytes) content reply _ _ message) ∙ gateway-at-sized bytes)
+          (gateway-carried _ bytes _ room (ap length (received-version (gatewayAt bytes) content reply _ _ message) ∙ gateway-at-text bytes)
           (gateway-refused (gatewayAt bytes) content reply _ (gateway-outcome (gatewayAt bytes) content reply _ _ message)));
     }

@@ -18,7 +18,7 @@ use Rattle.gateway.specs.Rules as gateway
 use Rattle.layout.specs.Layout.{kept, deviceAt, deviceBytes, deviceLength, gatewayAt, gatewayBytes, gatewayLength}
 use Rattle.layout.proofs.Layouts.{kept-refused}
 use Rattle.host.specs.Exports
-use Rattle.host.specs.Exports.{packed, Kept, Asked, DeviceGiven, GatewayGiven, asked, deviceNewOf, deviceReceiveOf, deviceNextMessageOf, deviceInstallFinishedOf, deviceKept, gatewayKept, gatewayStartOf, gatewayReceiveOf, gatewayNextMessageOf}
+use Rattle.host.specs.Exports.{packed, Left, Asked, DeviceGiven, GatewayGiven, asked, deviceNewOf, deviceReceiveOf, deviceNextMessageOf, deviceInstallFinishedOf, deviceKept, gatewayKept, gatewayStartOf, gatewayReceiveOf, gatewayNextMessageOf}
 use Rattle.host.specs.Boundary.{numberIn, lengthIn, Refused, Demand1}
 
 -- ---- refusals have numbers below 256
@@ -170,7 +170,7 @@ module _ (g : Gateway) (content reply : List ℕ) where
 -- ---- every call
 
 -- a record buffer after a call that answers with a number alone
-Unkept : (bytes : List ℕ) → Kept → Type 0
+Unkept : (bytes : List ℕ) → Left → Type 0
 Unkept bytes k = Refused (k .answer) → k .bytes ≡ bytes
 
 DeviceUntouched : (bytes image map reply : List ℕ) → DeviceGiven → Type 0

@@ -1,5 +1,5 @@
--- What holds of every call through bytes: a refusal changes no buffer (demand 1), and the next call finds the record that the last one
--- left, so that a run through bytes is a run over records. Assumes nothing.
+-- What holds of every call through bytes: a refusal changes no buffer, and the next call finds the record that the last one left. Assumes
+-- nothing.
 use Prim.Native.Nat.{ℕ, _/_, _%_, _≤_}
 use mathlib.Core.Path.{_≡_}
 use mathlib.Core.List.{List}
@@ -10,7 +10,7 @@ use Rattle.device.specs.Rules as device
 use Rattle.gateway.specs.Record.{startOf}
 use Rattle.gateway.specs.Rules as gateway
 use Rattle.layout.specs.Layout.{deviceAt, deviceLength, gatewayAt, gatewayLength}
-use Rattle.host.specs.Exports.{fact, textOf, Kept, Asked, DeviceGiven, GatewayGiven, deviceNewOf, deviceReceiveOf, deviceNextMessageOf, deviceInstallFinishedOf, gatewayStartOf, gatewayReceiveOf, gatewayNextMessageOf}
+use Rattle.host.specs.Exports.{fact, textOf, Left, Asked, DeviceGiven, GatewayGiven, deviceNewOf, deviceReceiveOf, deviceNextMessageOf, deviceInstallFinishedOf, gatewayStartOf, gatewayReceiveOf, gatewayNextMessageOf}
 
 -- the number in an answer, and the length of the reply
 abbrev pub numberIn : ℕ → ℕ
@@ -19,23 +19,23 @@ numberIn answer = answer % 256
 abbrev pub lengthIn : ℕ → ℕ
 lengthIn answer = answer / 256
 
--- ---- demand 1: any number but 0 leaves every buffer as it was, and no reply
+-- ---- the project's demand 1, after 01's "Numbers returned": any number but 0 leaves every buffer as it was, and no reply
 
 abbrev pub Refused : ℕ → Type 0
 Refused answer = numberIn answer ≡ 0 → ⊥
 
 pub record Demand1 : Type 0 where
-  pub device-new : (bytes version : List ℕ) → let k : Kept = deviceNewOf bytes version in
+  pub device-new : (bytes version : List ℕ) → let k : Left = deviceNewOf bytes version in
       Refused (k .answer) → k .bytes ≡ bytes
   pub device-receive : (bytes image map reply : List ℕ) (supported pcp condition : ℕ) (message : List ℕ)
       → let g : DeviceGiven = deviceReceiveOf bytes image map reply supported pcp condition message in
       Refused (g .answer) → (lengthIn (g .answer) ≡ 0) × (g .bytes ≡ bytes) × (g .image ≡ image) × (g .map ≡ map) × (g .reply ≡ reply)
   pub device-next-message : (bytes image map reply : List ℕ) → let a : Asked = deviceNextMessageOf bytes image map reply in
       Refused (a .answer) → (lengthIn (a .answer) ≡ 0) × (a .reply ≡ reply)
-  pub device-install-finished : (bytes : List ℕ) (code : ℕ) → let k : Kept = deviceInstallFinishedOf bytes code in
+  pub device-install-finished : (bytes : List ℕ) (code : ℕ) → let k : Left = deviceInstallFinishedOf bytes code in
       Refused (k .answer) → k .bytes ≡ bytes
   pub gateway-start : (bytes version : List ℕ) (size : ℕ) (content : List ℕ) (checked : ℕ)
-      → let k : Kept = gatewayStartOf bytes version size content checked in
+      → let k : Left = gatewayStartOf bytes version size content checked in
       Refused (k .answer) → k .bytes ≡ bytes
   pub gateway-receive : (bytes content reply : List ℕ) (supported pcp : ℕ) (message : List ℕ)
       → let g : GatewayGiven = gatewayReceiveOf bytes content reply supported pcp message in
@@ -43,7 +43,8 @@ pub record Demand1 : Type 0 where
   pub gateway-next-message : (bytes content reply : List ℕ) → let a : Asked = gatewayNextMessageOf bytes content reply in
       Refused (a .answer) → (lengthIn (a .answer) ≡ 0) × (a .reply ≡ reply)
 
--- ---- the record that a call left is the one that the next call finds: refused or not, whatever stood in the buffer
+-- ---- the record that a call left is the one that the next call finds, whatever stood in the buffer: after a making or a start that was
+-- answered 0, and after any other call, refused or not
 
 pub record Carried : Type 0 where
   pub device-new : (bytes version : List ℕ) → deviceLength ≤ length bytes → newOf (textOf version) .number ≡ 0

@@ -1,5 +1,5 @@
 -- The calls of both ends through bytes: each is the end's own definition, with the record read from and kept in a buffer that the host
--- lends. Assumes nothing.
+-- lends (`bytes`). The device is 01's head, `content` its package. Assumes nothing.
 use Prim.Native.Nat.{ℕ, _+_, _*_}
 use mathlib.Core.Bool.{Bool, not}
 use mathlib.Core.List.{List}
@@ -37,7 +37,7 @@ textOf bytes = pick (leb (length bytes) 16) (part bytes 0 16) (replicate 16 0)
 
 -- ---- what a call leaves: its answer, and every buffer that was lent for writing
 
-pub record Kept : Type 0 where
+pub record Left : Type 0 where
   pub answer : ℕ
   pub bytes : List ℕ
 
@@ -64,23 +64,23 @@ asked s = record { answer = packed (s .number) (s .length); reply = s .buffer }
 -- ---- the device
 
 module _ (bytes : List ℕ) where
-  -- a record of the device, where there is room for one
-  abbrev pub deviceRoom : Bool
-  deviceRoom = leb deviceLength (length bytes)
+  -- the buffer has room for the device's record
+  abbrev pub deviceFits : Bool
+  deviceFits = leb deviceLength (length bytes)
 
   -- the record that the call left, in the place of the one that it was given
   abbrev pub deviceKept : (number : ℕ) → Device → List ℕ
   deviceKept number d = kept number deviceLength (deviceBytes d) bytes
 
-  unfoldable pub deviceNewOf : (version : List ℕ) → Kept
+  unfoldable pub deviceNewOf : (version : List ℕ) → Left
   deviceNewOf version =
       let m : Made = newOf (textOf version) in
-      pick deviceRoom (record { answer = m .number; bytes = deviceKept (m .number) (m .device) }) (record { answer = shortRecord; bytes = bytes })
+      pick deviceFits (record { answer = m .number; bytes = deviceKept (m .number) (m .device) }) (record { answer = shortRecord; bytes = bytes })
 
   unfoldable pub deviceReceiveOf : (image map reply : List ℕ) (supported pcp condition : ℕ) (message : List ℕ) → DeviceGiven
   deviceReceiveOf image map reply supported pcp condition message =
       let a : device.After = device.receiveOf (deviceAt bytes) image map reply (fact supported) (fact pcp) condition message in
-      pick deviceRoom
+      pick deviceFits
       (record {
         answer = packed (a .number) (a .length);
         bytes = deviceKept (a .number) (a .device);
@@ -92,34 +92,35 @@ module _ (bytes : List ℕ) where
 
   unfoldable pub deviceNextMessageOf : (image map reply : List ℕ) → Asked
   deviceNextMessageOf image map reply =
-      pick deviceRoom (asked (device.nextMessageOf (deviceAt bytes) image map reply)) (record { answer = shortRecord; reply = reply })
+      pick deviceFits (asked (device.nextMessageOf (deviceAt bytes) image map reply)) (record { answer = shortRecord; reply = reply })
 
-  unfoldable pub deviceInstallFinishedOf : (code : ℕ) → Kept
+  unfoldable pub deviceInstallFinishedOf : (code : ℕ) → Left
   deviceInstallFinishedOf code =
       let f : Finished = device.installFinishedOf (deviceAt bytes) code in
-      pick deviceRoom (record { answer = f .number; bytes = deviceKept (f .number) (f .device) }) (record { answer = shortRecord; bytes = bytes })
+      pick deviceFits (record { answer = f .number; bytes = deviceKept (f .number) (f .device) }) (record { answer = shortRecord; bytes = bytes })
 
 -- ---- the gateway
 
 module _ (bytes : List ℕ) where
-  abbrev pub gatewayRoom : Bool
-  gatewayRoom = leb gatewayLength (length bytes)
+  -- the buffer has room for the gateway's record
+  abbrev pub gatewayFits : Bool
+  gatewayFits = leb gatewayLength (length bytes)
 
   abbrev pub gatewayKept : (number : ℕ) → Gateway → List ℕ
   gatewayKept number g = kept number gatewayLength (gatewayBytes g) bytes
 
-  unfoldable pub gatewayStartOf : (version : List ℕ) (size : ℕ) (content : List ℕ) (checked : ℕ) → Kept
+  unfoldable pub gatewayStartOf : (version : List ℕ) (size : ℕ) (content : List ℕ) (checked : ℕ) → Left
   gatewayStartOf version size content checked =
       let s : Started = startOf (textOf version) size content (fact checked) in
-      pick gatewayRoom (record { answer = s .number; bytes = gatewayKept (s .number) (s .gateway) }) (record { answer = shortRecord; bytes = bytes })
+      pick gatewayFits (record { answer = s .number; bytes = gatewayKept (s .number) (s .gateway) }) (record { answer = shortRecord; bytes = bytes })
 
   unfoldable pub gatewayReceiveOf : (content reply : List ℕ) (supported pcp : ℕ) (message : List ℕ) → GatewayGiven
   gatewayReceiveOf content reply supported pcp message =
       let a : gateway.After = gateway.receiveOf (gatewayAt bytes) content reply (fact supported) (fact pcp) message in
-      pick gatewayRoom
+      pick gatewayFits
       (record { answer = packed (a .number) (a .length); bytes = gatewayKept (a .number) (a .gateway); reply = a .reply })
       (record { answer = shortRecord; bytes = bytes; reply = reply })
 
   unfoldable pub gatewayNextMessageOf : (content reply : List ℕ) → Asked
   gatewayNextMessageOf content reply =
-      pick gatewayRoom (asked (gateway.nextMessageOf (gatewayAt bytes) content reply)) (record { answer = shortRecord; reply = reply })
+      pick gatewayFits (asked (gateway.nextMessageOf (gatewayAt bytes) content reply)) (record { answer = shortRecord; reply = reply })

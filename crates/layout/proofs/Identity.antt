@@ -6,9 +6,10 @@ use mathlib.Core.List.{List, [], _∷_, _++_, append-assoc}
 use lib.ListN.{length, take, drop, getD, length-append}
 use lib.Seq.{getD-drop, take-at, drop-at, drop-drop}
 use Rattle.basis.specs.Bytes.{Bytes, wordAt, wordBytes, part, over}
-use Rattle.basis.proofs.Lists.{word-high, word-low, part-within, part-drop}
+use Rattle.basis.proofs.Lists.{word-high, word-low, part-within, part-drop, over-take}
 use Rattle.device_record.specs.declared.Device.{Device}
 use Rattle.gateway.specs.declared.Gateway.{Gateway}
+use Rattle.layout.specs.Identity.{Identity}
 use Rattle.layout.specs.Layout.{deviceBytes, deviceAt, deviceLength, longAt, longBytes, gatewayBytes, gatewayAt, gatewayLength}
 
 -- ---- a number of eight bytes and its four WORDs
@@ -46,14 +47,14 @@ module _ (b : List ℕ) (h : Bytes b) where
   unfolding Bytes
   long-part at = long-digits (wordAt b at) (wordAt b (at + 2)) (wordAt b (at + 4)) (wordAt b (at + 6)) (word-below (at + 2)) (word-below (at + 4)) (word-below (at + 6))
 
-  pub device-back : deviceLength ≤ length b → deviceBytes (deviceAt b) ≡ take deviceLength b
+  device-back : deviceLength ≤ length b → deviceBytes (deviceAt b) ≡ take deviceLength b
   unfolding deviceBytes deviceAt part
   device-back room =
       (λ i. getD b 0 0 ∷ [] ++ (part b 1 16 ++ (part b 17 16
       ++ (word-part 33 i ++ (word-part 35 i ++ (word-part 37 i ++ (word-part 39 i ++ (word-part 41 i ++ (getD b 43 0 ∷ [])))))))))
       ∙ part-within b 0 deviceLength room
 
-  pub gateway-back : gatewayLength ≤ length b → gatewayBytes (gatewayAt b) ≡ take gatewayLength b
+  gateway-back : gatewayLength ≤ length b → gatewayBytes (gatewayAt b) ≡ take gatewayLength b
   unfolding gatewayBytes gatewayAt part
   gateway-back room =
       (λ i. getD b 0 0 ∷ getD b 1 0 ∷ [] ++ (part b 2 16 ++ (word-part 18 i ++ (long-part 20 i ++ word-part 28 i))))
@@ -83,7 +84,7 @@ module _ (d : Device) (o : List ℕ) (running : length (d .running) ≡ 16) (tar
   all : List ℕ
   all = d .phase ∷ (d .running ++ (d .fields .version ++ numbers))
 
-  pub length-device : length (deviceBytes d) ≡ deviceLength
+  length-device : length (deviceBytes d) ≡ deviceLength
   unfolding deviceBytes
   length-device = simp (length-append, running, target) (omega arith)
 
@@ -101,7 +102,7 @@ module _ (d : Device) (o : List ℕ) (running : length (d .running) ≡ 16) (tar
   behind-target : drop 33 all ≡ numbers
   behind-target = sym (drop-drop 16 17 all) ∙ ap (drop 16) behind-running ∙ drop-at (d .fields .version) numbers 16 target
 
-  pub device-kept : deviceAt (over (deviceBytes d) o) ≡ d
+  device-kept : deviceAt (over (deviceBytes d) o) ≡ d
   unfolding deviceAt all numbers
   device-kept =
       let run : part all 1 16 ≡ d .running = sym (part-drop 1 all 0 16) ∙ part-front (d .running) _ 16 running in
@@ -129,7 +130,7 @@ module _ (g : Gateway) (o : List ℕ) (target : length (g .version) ≡ 16) wher
   gateway-all : List ℕ
   gateway-all = g .phase ∷ g .ending ∷ (g .version ++ gateway-numbers)
 
-  pub length-gateway : length (gatewayBytes g) ≡ gatewayLength
+  length-gateway : length (gatewayBytes g) ≡ gatewayLength
   unfolding gatewayBytes
   length-gateway = simp (length-append, target) (omega arith)
 
@@ -142,7 +143,7 @@ module _ (g : Gateway) (o : List ℕ) (target : length (g .version) ≡ 16) wher
   unfolding gateway-all
   behind-version = drop-at (g .version) gateway-numbers 16 target
 
-  pub gateway-kept : gatewayAt (over (gatewayBytes g) o) ≡ g
+  gateway-kept : gatewayAt (over (gatewayBytes g) o) ≡ g
   unfolding gatewayAt gateway-all gateway-numbers
   gateway-kept =
       let n : ℕ = g .length in
@@ -157,3 +158,18 @@ module _ (g : Gateway) (o : List ℕ) (target : length (g .version) ≡ 16) wher
       let code : wordAt gateway-all 28 ≡ g .code = at 10 ∙ word-back _ in
       ap gatewayAt gateway-laid
       ∙ (λ i. record { phase = g .phase; ending = g .ending; version = text i; size = size i; length = long i; code = code i })
+
+-- ---- the claim
+
+pub identity : Identity
+identity =
+    record {
+      device-back = device-back;
+      device-same = λ b h room. ap (λ (p : List ℕ). over p b) (device-back b h room) ∙ over-take deviceLength b room;
+      gateway-back = gateway-back;
+      gateway-same = λ b h room. ap (λ (p : List ℕ). over p b) (gateway-back b h room) ∙ over-take gatewayLength b room;
+      device-kept = λ d buffer t. device-kept d buffer (t .running) (t .target);
+      gateway-kept = gateway-kept;
+      device-length = λ d t. length-device d [] (t .running) (t .target);
+      gateway-length = λ g t. length-gateway g [] t;
+    }

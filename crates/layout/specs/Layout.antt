@@ -1,4 +1,5 @@
--- The records as bytes in a buffer that a host lends: fixed layouts, every number high byte first. Assumes nothing.
+-- The records of the device ("head" in 01) and the gateway as bytes in a buffer that a host lends: fixed layouts, every number high byte
+-- first. Assumes nothing.
 use Prim.Native.Nat.{ℕ, _+_, _*_, _/_, _%_}
 use mathlib.Core.Bool.{_&&_}
 use mathlib.Core.List.{List, [], _∷_, _++_}
@@ -59,6 +60,7 @@ gatewayAt b =
 
 -- ---- after a call
 
--- the buffer after a call that answered with a number: the new record at its front where that is 0 and there is room, else as it was
+-- the buffer in which a record is kept, after a call that answered with a number: the new record at its front where that is 0 and there is
+-- room, else as it was
 unfoldable pub kept : (number room : ℕ) (new buffer : List ℕ) → List ℕ
 kept number room new buffer = pick (eqb number 0 && leb room (length buffer)) (over new buffer) buffer

@@ -35,7 +35,7 @@ left a = record { device = a .device; image = a .image; map = a .map }
 
 -- the two ends of a world; what lies on the air behind them is heard no more
 pub record At (w : World) (e : DeviceEnd) (g : Gateway) : Type 0 where
-  pub end-is : w .deviceEnd ≡ e
+  pub device-is : w .deviceEnd ≡ e
   pub gateway-is : w .gateway ≡ g
   pub sound : Fine e
 
@@ -103,7 +103,7 @@ module _ (s : Setting) where
           → device-rules.nextMessageOf (w .deviceEnd .device) (w .deviceEnd .image) (w .deviceEnd .map) (s .deviceReply w) ≡ said toGateway r (s .deviceReply w)
       unfolding device-rules.nextMessageOf refusal pick
       device-sends r q =
-          ap (λ (x : DeviceEnd). device-rules.nextMessageOf (x .device) (x .image) (x .map) (s .deviceReply w)) (here .deviceEnd-is)
+          ap (λ (x : DeviceEnd). device-rules.nextMessageOf (x .device) (x .image) (x .map) (s .deviceReply w)) (here .device-is)
           ∙ rw (device-roomy, good, fits, q)
 
       device-says : (m : GatewayMessage) → device-rules.wanted (e .device) (e .map) ≡ found m
@@ -117,7 +117,7 @@ module _ (s : Setting) where
 
       device-asked : At (afterDevice (asked (s .deviceReply w))) e g
       unfolding next deviceNext
-      device-asked = record { end-is = here .deviceEnd-is; gateway-is = here .gateway-is; sound = here .sound }
+      device-asked = record { device-is = here .device-is; gateway-is = here .gateway-is; sound = here .sound }
 
       -- it is given a message
       module _ (m : DeviceMessage) (v : deviceValid m ≡ true) where
@@ -129,14 +129,14 @@ module _ (s : Setting) where
             → deviceSays (w .deviceEnd) (givenDevice m) ≡ a
         unfolding deviceSays
         device-replies r =
-            ap (λ (x : DeviceEnd). deviceSays x (givenDevice m)) (here .deviceEnd-is) ∙ rw device-hears (r (s .deviceReply w))
+            ap (λ (x : DeviceEnd). deviceSays x (givenDevice m)) (here .device-is) ∙ rw device-hears (r (s .deviceReply w))
 
         device-given : {d : DeviceEnd} → ((reply : List ℕ) → left (deviceTakes e m reply) ≡ d) → At (afterDevice (givenDevice m)) d g
         unfolding next deviceNext
         device-given {d = d} t =
             let then : deviceNext e (givenDevice m) ≡ d = ap left device-hears ∙ t (s .deviceReply w) in
             record {
-              end-is = ap (λ (x : DeviceEnd). deviceNext x (givenDevice m)) (here .deviceEnd-is) ∙ then;
+              device-is = ap (λ (x : DeviceEnd). deviceNext x (givenDevice m)) (here .device-is) ∙ then;
               gateway-is = here .gateway-is;
               sound = subst Fine then (call-fine e (givenDevice m) (here .sound));
             }
@@ -156,7 +156,7 @@ module _ (s : Setting) where
 
       gateway-asked : At (afterGateway (GatewayCall.asked (s .gatewayReply w))) e (gatewayIn s phase)
       unfolding next gatewayNext
-      gateway-asked = record { end-is = here .deviceEnd-is; gateway-is = here .gateway-is; sound = here .sound }
+      gateway-asked = record { device-is = here .device-is; gateway-is = here .gateway-is; sound = here .sound }
 
       -- it is given a message
       module _ (m : GatewayMessage) (v : gatewayValid m ≡ true) where
@@ -177,7 +177,7 @@ module _ (s : Setting) where
         unfolding next gatewayNext
         gateway-given t =
             record {
-              end-is = here .deviceEnd-is;
+              device-is = here .device-is;
               gateway-is = ap (λ (a : gateway-rules.After). a .gateway) gateway-hears ∙ t (s .gatewayReply w);
               sound = here .sound;
             }

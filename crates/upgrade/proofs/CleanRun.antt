@@ -100,7 +100,7 @@ module _ (b : Before) (deviceReply gatewayReply : World → List ℕ) (c : Clean
       let unended : Unended first (gatewayThen b) = unended-after (b .content) first (b .gatewayCalls) first (λ _. refl) in
       let offering : gatewayThen b .phase ≡ gateway.offer = c .ready .offering in
       record {
-        end-is = refl;
+        device-is = refl;
         sound = setting .sound;
         gateway-is =
             unended (λ z. omega arith)

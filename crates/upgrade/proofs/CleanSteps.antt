@@ -146,7 +146,7 @@ module _ (s : Setting) where
     finished here =
         let e : DeviceEnd = endIn s device.installing stored last image map in
         let good : device.recordOk (e .device) ≡ true = sound-record (standing any) (e .device) image map (here .sound) in
-        rw (here .deviceEnd-is, good) record { end-is = refl; gateway-is = here .gateway-is; sound = rw good at (call-fine e (installed 0x00) (here .sound)) }
+        rw (here .device-is, good) record { device-is = refl; gateway-is = here .gateway-is; sound = rw good at (call-fine e (installed 0x00) (here .sound)) }
 
     pub succeeded : At w (updatedIn s device.reporting stored last image map) (gatewayIn s gateway.run)
         → Spoke s w (updatedIn s device.idle stored last image map) (gatewayIn s gateway.ended)

@@ -1,0 +1,28 @@
+-- The layouts lose nothing: bytes to record and back, and record to bytes and back, are the identity. Assumes nothing.
+use Prim.Native.Nat.{_≤_}
+use mathlib.Core.Path.{_≡_}
+use mathlib.Core.List.{List}
+use Prim.Native.Nat.{ℕ}
+use lib.ListN.{length, take}
+use Rattle.basis.specs.Bytes.{Bytes, over}
+use Rattle.device_record.specs.declared.Device.{Device}
+use Rattle.gateway.specs.declared.Gateway.{Gateway}
+use Rattle.layout.specs.Layout.{deviceBytes, deviceAt, deviceLength, gatewayBytes, gatewayAt, gatewayLength}
+
+-- a record's version texts have 16 bytes each, as in the code
+pub record DeviceTexts (d : Device) : Type 0 where
+  pub running : length (d .running) ≡ 16
+  pub target : length (d .fields .version) ≡ 16
+
+pub record Identity : Type 0 where
+  -- bytes to record and back; so a record put back where it was read from leaves the buffer as it was
+  pub device-back : (b : List ℕ) → Bytes b → deviceLength ≤ length b → deviceBytes (deviceAt b) ≡ take deviceLength b
+  pub device-same : (b : List ℕ) → Bytes b → deviceLength ≤ length b → over (deviceBytes (deviceAt b)) b ≡ b
+  pub gateway-back : (b : List ℕ) → Bytes b → gatewayLength ≤ length b → gatewayBytes (gatewayAt b) ≡ take gatewayLength b
+  pub gateway-same : (b : List ℕ) → Bytes b → gatewayLength ≤ length b → over (gatewayBytes (gatewayAt b)) b ≡ b
+  -- record to bytes and back, at the front of any buffer
+  pub device-kept : (d : Device) (buffer : List ℕ) → DeviceTexts d → deviceAt (over (deviceBytes d) buffer) ≡ d
+  pub gateway-kept : (g : Gateway) (buffer : List ℕ) → length (g .version) ≡ 16 → gatewayAt (over (gatewayBytes g) buffer) ≡ g
+  -- the bytes of a record
+  pub device-length : (d : Device) → DeviceTexts d → length (deviceBytes d) ≡ deviceLength
+  pub gateway-length : (g : Gateway) → length (g .version) ≡ 16 → length (gatewayBytes g) ≡ gatewayLength
