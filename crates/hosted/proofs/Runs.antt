@@ -24,7 +24,7 @@ use Rattle.host.proofs.Carrying.{records-carried}
 use Rattle.upgrade.specs.Fold.{after, Allowed}
 use Rattle.upgrade.specs.Calls.{aired, DeviceEnd, World, Call, next, deviceNext, deviceSays, gatewayNext, gatewaySays, May}
 use Rattle.upgrade.specs.Demand3.{Ready, start, deviceThen, gatewayThen}
-use Rattle.upgrade.proofs.Demand3.{demand-3}
+use Rattle.upgrade.proofs.Demand3.{demand-3, install-length}
 use Rattle.hosted.specs.Hosted.{DeviceHost, DeviceHostCall, given, asked, installed, deviceHostNext, deviceHostSays, deviceSeen, deviceCallOf, GatewayHostCall, gatewayHostNext, gatewayHostSays, gatewayCallOf, Hosts, HostCall, atDevice, atGateway, hostNext, seen, callOf, HostMay, Fitting, HostedRuns, HostedBefore, deviceHostThen, gatewayHostThen, hostedStart, recordsBefore, HostedReady, HostedDemand3}
 
 -- ---- a run that another run shows
@@ -220,11 +220,16 @@ module _ (b : HostedBefore) (r : HostedReady b) where
         held = r .held;
       }
 
+  allowed-there : (cs : List HostCall) → Allowed (hostNext (b .content)) HostMay (hostedStart b) cs
+      → Allowed (next (b .content)) May (start (recordsBefore b)) (map callOf cs)
+  allowed-there cs allowed =
+      subst (λ (w : World). Allowed (next (b .content)) May w (map callOf cs)) started-there
+      (allowed-shown (hostNext (b .content)) (next (b .content)) seen callOf Fitting (still-fitting (b .content)) (one-call (b .content)) May cs
+      (hostedStart b) fitting allowed)
+
 pub hosted-demand-3 : HostedDemand3
 hosted-demand-3 b r cs allowed = (
   hosted-runs (b .content) (hostedStart b) (fitting b r) cs .1 ∙ ap (λ (w : World). after (next (b .content)) w (map callOf cs)) (started-there b r),
-  demand-3 (recordsBefore b) (ready b r) (map callOf cs)
-      (subst (λ (w : World). Allowed (next (b .content)) May w (map callOf cs)) (started-there b r)
-      (allowed-shown (hostNext (b .content)) (next (b .content)) seen callOf Fitting (still-fitting (b .content)) (one-call (b .content)) May cs
-      (hostedStart b) (fitting b r) allowed)),
+  demand-3 (recordsBefore b) (ready b r) (map callOf cs) (allowed-there b r cs allowed),
+  install-length (recordsBefore b) (ready b r) (map callOf cs) (allowed-there b r cs allowed),
 )

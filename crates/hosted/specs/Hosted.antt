@@ -10,7 +10,7 @@ use Rattle.gateway.specs.Record.{offer}
 use Rattle.upgrade.specs.Fold.{after, Allowed}
 use Rattle.upgrade.specs.Calls.{aired, DeviceEnd, DeviceCall, GatewayCall, World, Call, next, May}
 use Rattle.upgrade.specs.Calls as calls
-use Rattle.upgrade.specs.Demand3.{Before, HeldIsPackage, worldAfter, ExecutedImage, SuccessInstalled}
+use Rattle.upgrade.specs.Demand3.{Before, HeldIsPackage, worldAfter, ExecutedImage, SuccessInstalled, ExecutedLength}
 
 -- ---- the device's host: what it keeps, and its calls, with facts as bytes
 
@@ -179,9 +179,10 @@ module _ (b : HostedBefore) where
     pub offering : gatewayAt gatewayHostThen .phase ≡ offer
     pub held : HeldIsPackage recordsBefore
 
--- Demand 3's claims hold of what the hosts keep, after every allowed list of calls.
+-- Demand 3's claims, and that of the length to be installed, hold of what the hosts keep, after every allowed list of calls.
 abbrev pub HostedDemand3 : Type 0
 HostedDemand3 =
     (b : HostedBefore) → HostedReady b → (cs : List HostCall) → Allowed (hostNext (b .content)) HostMay (hostedStart b) cs →
     (seen (after (hostNext (b .content)) (hostedStart b) cs) ≡ worldAfter (recordsBefore b) (map callOf cs))
     × (ExecutedImage (recordsBefore b) (map callOf cs) × SuccessInstalled (recordsBefore b) (map callOf cs))
+    × ExecutedLength (recordsBefore b) (map callOf cs)

@@ -1,12 +1,16 @@
 -- Demand 3: the theorem. Assumes nothing.
-use Prim.Native.Nat.{ℕ, _*_, _<_}
+use Prim.Native.Nat.{ℕ, _+_, _*_, _-_, _≤_, _<_}
+use native.Mathlib.Nat.{mul-comm}
 use native.Mathlib.Omega.{arith}
-use mathlib.Core.Path.{_≡_, refl, sym, _∙_, ap, subst}
+use mathlib.Core.Path.{_≡_, refl, sym, _∙_, ap, ap₂, subst}
 use mathlib.Core.Bool.{true}
 use mathlib.Core.List.{List, [], _∷_, _++_}
 use mathlib.Core.Logic.{_⊎_, inl, inr}
+use lib.Dec.{leb}
 use lib.ListN.{length, take, drop, getD}
+use borrow.Author.Tests.{leb-true}
 use Rattle.basis.specs.Choice.{pick}
+use Rattle.basis.proofs.Choosing.{and-left}
 use Rattle.checksum.specs.Check.{checkOf}
 use Rattle.message.specs.declared.Fields.{Fields}
 use Rattle.message.specs.Messages.{execute, executeReply, gatewayData, found, toDevice, toGateway}
@@ -15,15 +19,15 @@ use Rattle.device_record.specs.declared.Device.{Device}
 use Rattle.device_record.specs.Record.{idle, loading, loaded, acked, failed}
 use Rattle.device.proofs.Views
 use Rattle.device.proofs.Views.{Input, hears, Out, spoken}
-use Rattle.device.proofs.Standing.{standing-under, package-stands}
+use Rattle.device.proofs.Standing.{standing-under, package-stands, package-length}
 use Rattle.gateway.specs.declared.Gateway.{Gateway}
 use Rattle.gateway.specs.Record as gateway
 use Rattle.message.specs.Limits.{sizeOk}
 use Rattle.device_record.proofs.Ranges.{size-range}
-use Rattle.gateway.proofs.Package.{starts, total-covers, fragment-is}
+use Rattle.gateway.proofs.Package.{starts, total-covers, below-total, total-some, fragment-is}
 use Rattle.upgrade.specs.Fold.{after, Allowed}
 use Rattle.upgrade.specs.Calls.{DeviceEnd, DeviceCall, given, asked, installed, GatewayCall, gatewayNext, World, Call, atDevice, atGateway, next, May}
-use Rattle.upgrade.specs.Demand3.{Before, made, deviceThen, gatewayThen, heldThen, Ready, start, worldAfter, Executed, ExecutedImage, InstalledBefore, Demand3}
+use Rattle.upgrade.specs.Demand3.{Before, made, deviceThen, gatewayThen, heldThen, Ready, start, worldAfter, Executed, ExecutedImage, ExecutedLength, InstalledBefore, Demand3, InstallLength}
 use Rattle.upgrade.proofs.Folds.{after-append, allowed-front, allowed-rest, always}
 use Rattle.upgrade.proofs.Air.{air-none}
 use Rattle.upgrade.proofs.Run.{Plan, Stretch, Run, untaken, taken, run-later}
@@ -77,6 +81,15 @@ module _ (e : DeviceEnd) (condition : ℕ) (input : Input) (i : input ≡ hears 
       full (inr r) = omega arith
   answered o s (Views.reports code j l ok q) = absurd (let z : _≡_ {A = ℕ} 0 1 = cc in omega arith)
 
+  -- it takes up no announcement and stores no fragment
+  answered-kept : (o : Out) → DoesAt e input o → (o .device .fields ≡ e .device .fields) × (o .device .last ≡ e .device .last)
+  answered-kept o (Views.still n says x q) = (ap (λ (z : Out). z .device .fields) q, ap (λ (z : Out). z .device .last) q)
+  answered-kept o (Views.begins c a j b q) = absurd (let z : _≡_ {A = ℕ} 0 1 = cc in omega arith)
+  answered-kept o (Views.stores c index bytes j x q) = absurd (let z : _≡_ {A = ℕ} 0 1 = cc in omega arith)
+  answered-kept o (Views.moves phase m q) = (ap (λ (z : Out). z .device .fields) q, ap (λ (z : Out). z .device .last) q)
+  answered-kept o (Views.executes c j l q) = (ap (λ (z : Out). z .device .fields) q, ap (λ (z : Out). z .device .last) q)
+  answered-kept o (Views.reports code j l ok q) = (ap (λ (z : Out). z .device .fields) q, ap (λ (z : Out). z .device .last) q)
+
 -- ---- what the gateway offers
 
 offer-then : (content : List ℕ) (cs : List GatewayCall) (g : Gateway)
@@ -96,6 +109,12 @@ module _ (b : Before) (ready : Ready b) where
   some =
       subst (λ (x : Fields). 0 < x .size) (sym offer-is)
       (size-some (b .size) (starts (b .version) (b .size) (b .content) (b .checked) (ready .gateway-started) .size-ok))
+
+  long : 1 ≤ length (b .content)
+  unfolding gateway.lengthOk
+  long =
+      leb-true 1 (length (b .content))
+      (and-left (leb 1 (length (b .content))) _ (starts (b .version) (b .size) (b .content) (b .checked) (ready .gateway-started) .length-ok))
 
   total : gateway.offered (gatewayThen b) .total ≡ gateway.totalOf (length (b .content)) (gateway.offered (gatewayThen b) .size)
   total = subst (λ (x : Fields). x .total ≡ gateway.totalOf (length (b .content)) (x .size)) (sym offer-is) refl
@@ -181,6 +200,30 @@ module _ (b : Before) (ready : Ready b) where
         d (w .deviceEnd .image) (w .deviceEnd .map) (λ _ index bytes _ q. rw (t .fields-are) (q ∙ fragment-is (b .content) _ index)) (t .sound))
         (rw (t .fields-are) (rw total (total-covers (length (b .content)) _ some))) (full .0) (full .1) (full .2)
 
+    -- and says how long it is
+    length-there : (c : DeviceCall) (condition : ℕ) → May w (atDevice c) → inputOf c ≡ hears condition (found execute) → Full (w .deviceEnd .device)
+        → Run plan w E I → let d : Device = w .deviceEnd .device in d .fields .size * (d .fields .total - 1) + d .last ≡ length (b .content)
+    length-there c condition m k full (untaken u) = absurd (device-hears w c (u .said) m condition execute k)
+    length-there c condition m k full (taken t) =
+        let d : Device = w .deviceEnd .device in
+        package-length (b .content) d (w .deviceEnd .image) (w .deviceEnd .map)
+        (standing-under (Stretch plan) (λ index bytes. bytes ≡ take (d .fields .size) (drop (index * d .fields .size) (b .content)))
+        d (w .deviceEnd .image) (w .deviceEnd .map) (λ _ index bytes _ q. rw (t .fields-are) (q ∙ fragment-is (b .content) _ index)) (t .sound))
+        (rw (t .fields-are) (rw total (total-some n size some long))) (rw (t .fields-are) (rw total low)) (rw (t .fields-are) (rw total high))
+        (full .0) (full .1) (full .2)
+      where
+        n : ℕ
+        n = length (b .content)
+
+        size : ℕ
+        size = gateway.offered (gatewayThen b) .size
+
+        low : (gateway.totalOf n size - 1) * size ≤ n
+        low = omega (arith, below-total n size some (gateway.totalOf n size - 1) (omega (arith, total-some n size some long)))
+
+        high : n ≤ gateway.totalOf n size * size
+        high = omega (arith, total-covers n size some, mul-comm size (gateway.totalOf n size))
+
     answered-image : (c : Call) → Run plan w E I → May w c → Executed w c
         → take (length (b .content)) (next (b .content) w c .deviceEnd .image) ≡ b .content
     unfolding next
@@ -194,6 +237,31 @@ module _ (b : Before) (ready : Ready b) where
     answered-image (atDevice (asked reply)) r m x = absurd x
     answered-image (atDevice (installed code)) r m x = absurd x
     answered-image (atGateway c) r m x = absurd x
+
+    answered-length : (c : Call) → Run plan w E I → May w c → Executed w c
+        → let d : Device = next (b .content) w c .deviceEnd .device in d .fields .size * (d .fields .total - 1) + d .last ≡ length (b .content)
+    unfolding next
+    answered-length (atDevice (given supported pcp condition message reply)) r m x =
+        let c : DeviceCall = given supported pcp condition message reply in
+        let k : inputOf c ≡ hears condition (found execute) = ap (hears condition) (x .0) in
+        let o : Out = outIn (w .deviceEnd) c in
+        let full : Full (w .deviceEnd .device) =
+        answered (w .deviceEnd) condition (inputOf c) k o (sym (says-is (w .deviceEnd) c) ∙ x .1) (call-does (w .deviceEnd) c) .0 in
+        let same = answered-kept (w .deviceEnd) condition (inputOf c) k o (call-does (w .deviceEnd) c) in
+        ap (λ (e : DeviceEnd). e .device .fields .size * (e .device .fields .total - 1) + e .device .last) (next-is (w .deviceEnd) c)
+        ∙ ap₂ (λ (f : Fields) (last : ℕ). f .size * (f .total - 1) + last) (same .0) (same .1)
+        ∙ length-there c condition m k full r
+    answered-length (atDevice (asked reply)) r m x = absurd x
+    answered-length (atDevice (installed code)) r m x = absurd x
+    answered-length (atGateway c) r m x = absurd x
+
+  executed-length : (calls : List Call) → Allows calls → ExecutedLength b calls
+  executed-length calls a earlier last split x =
+      let a′ : Allows (earlier ++ (last ∷ [])) = subst Allows split a in
+      rw (split, after-append (next (b .content)) (start b) earlier (last ∷ []))
+      (answered-length (worldAfter b earlier) last
+      (inv earlier (allowed-front (next (b .content)) May (start b) earlier (last ∷ []) a′) .run)
+      (allowed-rest (next (b .content)) May (start b) earlier (last ∷ []) a′ .0) x)
 
   -- ---- the first half
 
@@ -211,3 +279,6 @@ module _ (b : Before) (ready : Ready b) where
 pub demand-3 : Demand3
 demand-3 b ready calls a =
     (executed-image b ready calls a, λ q z. success b ready (worldAfter b calls) (inv b ready calls a .run) q z)
+
+pub install-length : InstallLength
+install-length b ready calls a = executed-length b ready calls a

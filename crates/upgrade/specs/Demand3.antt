@@ -1,11 +1,12 @@
 -- Demand 3, as 01's "Runs of demand 3" words it. Assumes nothing.
-use Prim.Native.Nat.{ℕ}
+use Prim.Native.Nat.{ℕ, _+_, _*_, _-_}
 use mathlib.Core.Path.{_≡_}
 use mathlib.Core.Bool.{Bool, true}
 use mathlib.Core.List.{List, [], _∷_, _++_, List·Memᴰ}
 use lib.ListN.{length, take, drop}
 use Rattle.message.specs.Messages.{execute, executeReply, found, toDevice, toGateway}
 use Rattle.codec.specs.Codec.{bytesOf, readOf}
+use Rattle.device_record.specs.declared.Device.{Device}
 use Rattle.device_record.specs.Record.{newOf, holding}
 use Rattle.device.specs.Rules as device
 use Rattle.gateway.specs.declared.Gateway.{Gateway}
@@ -85,6 +86,13 @@ module _ (b : Before) (calls : List Call) where
       (take n (worldAfter b calls .deviceEnd .image) ≡ b .content)
       × ((some rest : List Call) → calls ≡ some ++ rest → drop n (worldAfter b some .deviceEnd .image) ≡ drop n (deviceThen b .image))
 
+  -- Beside 01's claims, for who installs: there, size times (total less 1) plus the last length is the package's length.
+  abbrev pub ExecutedLength : Type 0
+  ExecutedLength =
+      (earlier : List Call) (last : Call) → calls ≡ earlier ++ (last ∷ []) → Executed (worldAfter b earlier) last →
+      let d : Device = worldAfter b calls .deviceEnd .device in
+      d .fields .size * (d .fields .total - 1) + d .last ≡ length (b .content)
+
   -- An earlier call brought that reply; after it, and before the gateway ended, an installer's end with 00 was answered 0.
   pub record InstalledBefore : Type 0 where
     pub earlier : List Call
@@ -106,3 +114,9 @@ abbrev pub Demand3 : Type 0
 Demand3 =
     (b : Before) → Ready b → (calls : List Call) → Allowed (next (b .content)) May (start b) calls →
     ExecutedImage b calls × SuccessInstalled b calls
+
+-- Beside it: what is there to be installed is as long as the package.
+abbrev pub InstallLength : Type 0
+InstallLength =
+    (b : Before) → Ready b → (calls : List Call) → Allowed (next (b .content)) May (start b) calls →
+    ExecutedLength b calls
