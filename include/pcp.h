@@ -62,15 +62,24 @@
        6  length     two bytes, the number of data bytes
        8  data
 
+   A message names neither sender nor receiver, and 22 with 00 is the same bytes
+   both ways.  So the host sees to it that a device is given only what its
+   gateway sent toward it, a gateway only what its device sent toward it, and
+   that a device has one gateway at a time.
+
 
    Buffers
    -------
 
    Records.  A record is the state of one end, in bytes that the host keeps from
    one call to the next: PCP_DEVICE_RECORD for a device, PCP_GATEWAY_RECORD for
-   a gateway.  It holds no pointers.  It may be copied, put away and lent again
-   later, also by another process; its layout is below.  Any bytes may be lent:
-   those that break a record's rules get PCP_BAD_RECORD, and none do harm.
+   a gateway.  It holds no pointers: it may be put away and lent again later,
+   also by another process, but at either end only as the last call left it,
+   never an older copy.  A host that keeps an end over a restart saves it before
+   it sends what a call gave: a device that has answered 23, loses power and
+   comes back as it was before would install twice.  The layout is below.  Any
+   bytes may be lent: those that break a record's rules get PCP_BAD_RECORD, and
+   none make a call do harm.
 
    Image and map are the device's memory for the package, lent to each of its
    calls.  The image takes the fragments, each at its place; it needs size times
@@ -81,9 +90,11 @@
    counts but what the map says is stored.  Record, image and map belong
    together.  A host that keeps them over a restart, to resume the download,
    must bring back all three as the last call left them; if it cannot be sure of
-   that, it makes a new record.
+   that, it makes a new record.  A gateway in Serve or Run then stands still, or
+   ends with PCP_ENDING_NOT_EXECUTED; a new one has to follow it, see below.
 
    The package is lent to each of the gateway's calls, the same bytes each time.
+   Its length is tested, its bytes are not.
 
    The reply buffer gets the message to send: PCP_DEVICE_REPLY bytes at the
    device, PCP_GATEWAY_REPLY at the gateway, or more.
@@ -110,8 +121,10 @@
    bytes that arrive, from wherever, lead to anything else.
 
    1 to 12 are part of normal work: what arrived is of no use, or an end that
-   was asked has nothing to send (PCP_NO_USE).  The higher numbers are mistakes
-   of the host, in what it lends or states.
+   was asked has nothing to send (PCP_NO_USE).  Of these, 1 and 2 repeat what
+   the host states of the device, and 9 from pcp_device_install_finished says
+   that no installation is under way.  The higher numbers are mistakes of the
+   host, in what it lends or states.
 
 
    When messages are lost
@@ -121,20 +134,24 @@
    bears all of it, and the host sees to it that the upgrade goes on:
 
    - Asking (..._next_message) changes nothing.  If nothing comes, ask and send
-     again.  Ask at once after a call that changed the record, otherwise by a
-     timer; a host that asks after every arrival makes two of each message once
-     one was repeated.
+     again.  Ask at once after a call that changed the record (in Offer after a
+     wait, see below), otherwise by a timer; a host that asks after every
+     arrival makes two of each message once one was repeated.
    - A gateway in Run stops asking when the device's answer to 23 has arrived
      (code 23, number 0).  A device that has already installed refuses to do it
      again, which would end the gateway with PCP_ENDING_NOT_EXECUTED.
    - A gateway outside Serve and Run answers 21 and 22 with 80, no such upgrade,
      and the device drops what it has stored.  To keep that for a resume, drop
-     such messages (byte 3 is the code): the device asks again.
+     such messages (byte 3 is the code): the device asks again.  But a gateway
+     that ended with PCP_ENDING_DOWNLOAD_FAILED is given 22: a device in Failed
+     repeats it until it is answered.
    - A gateway that ended with neither PCP_ENDING_SUCCESS nor
      PCP_ENDING_ALREADY_RUNNING, or that stands still, is followed by a new one
      on the same package: pcp_gateway_start.  Wait first until nothing that was
-     sent before can still arrive.  The device resumes its download if version,
-     size, total and code are those that it holds, and the code is not 0.
+     sent before can still arrive, and as long again in Offer before asking:
+     what the device sent while the new one was in Ask, late, would count for
+     the new upgrade.  The device resumes its download if version, size, total
+     and code are those that it holds, and the code is not 0.
    - If the new gateway then stands still in Serve, and the device asks for
      nothing, the device may be in Acked: it has all, and has said so to an
      earlier gateway.  Start with another fragment size, or without a code, for
@@ -149,11 +166,11 @@
    begins with the gateway's package; and when the gateway ends with
    PCP_ENDING_SUCCESS, this installation was reported finished with 00.  What
    the device had stored before, under an announcement of the same version,
-   size, total and code, must be of the same package; to tell packages of one
-   version apart is what the code is for.  Damage on the way is found by the
-   messages' 16-bit check: most of it, not all.  The package's code is the same
-   check, so what the one does not see, the other may not see either.  Neither
-   protects against forgery.
+   size, total and code, must be the same package's, undamaged; to tell packages
+   of one version apart is what the code is for.  Damage on the way is found by
+   the messages' 16-bit check: most of it, not all.  The package's code is the
+   same check, so what the one does not see, the other may not see either.
+   Neither protects against forgery.
 
 
    Example: a device
@@ -171,9 +188,13 @@
                record, sizeof record, 1, 1, PCP_READY, bytes, length, image,
                sizeof image, map, sizeof map, reply, sizeof reply);
 
+           if (answer.number != PCP_HANDLED)
+               return; // without a look at the phase: the record may be none
+           save(); // record, image and map, if they are kept over a restart
            if (answer.length > 0)
                radio_send(reply, answer.length);
-           if (pcp_device_phase(record) == PCP_DEVICE_INSTALLING)
+           if (pcp_device_phase(record) == PCP_DEVICE_INSTALLING &&
+               pcp_device_image_length(record) <= sizeof image)
                install_once(image, pcp_device_image_length(record));
        }
 
@@ -193,6 +214,7 @@
            pcp_device_install_finished(
                record, sizeof record,
                succeeded ? PCP_INSTALLED : PCP_INSTALL_FAILED);
+           save();
        }
 
    Example: a gateway
@@ -201,23 +223,45 @@
        #include "pcp.h"
 
        static uint8_t record[PCP_GATEWAY_RECORD];
+       static int executing; // the device has answered 23
 
        uint8_t begin(const uint8_t *package, size_t package_length)
        {
+           executing = 0;
            return pcp_gateway_start(record, sizeof record, "V2.0", 4, 500,
                                     package, package_length, 1);
+       }
+
+       static int wanted(uint8_t code, uint8_t phase)
+       {
+           if (code != PCP_FRAGMENT && code != PCP_DOWNLOAD_RESULT)
+               return 1;
+           return phase == PCP_GATEWAY_SERVE || phase == PCP_GATEWAY_RUN ||
+                  (code == PCP_DOWNLOAD_RESULT &&
+                   pcp_gateway_ending(record) == PCP_ENDING_DOWNLOAD_FAILED);
        }
 
        void on_receive(const uint8_t *bytes, size_t length,
                        const uint8_t *package, size_t package_length)
        {
-           uint8_t reply[PCP_GATEWAY_REPLY];
-           pcp_answer answer = pcp_gateway_receive(
-               record, sizeof record, 1, 1, bytes, length, package,
-               package_length, reply, sizeof reply);
+           uint8_t reply[PCP_GATEWAY_REPLY], phase = pcp_gateway_phase(record);
+           pcp_answer answer;
 
+           if (length < 4 || !wanted(bytes[3], phase))
+               return;
+           answer = pcp_gateway_receive(record, sizeof record, 1, 1, bytes,
+                                        length, package, package_length, reply,
+                                        sizeof reply);
+           if (answer.number != PCP_HANDLED)
+               return;
+           if (bytes[3] == PCP_EXECUTE)
+               executing = 1;
+           save(); // record and executing, if they are kept over a restart
            if (answer.length > 0)
                radio_send(reply, answer.length);
+           if (pcp_gateway_phase(record) == phase)
+               return;
+           restart_timer(); // longer than the way there and back
            if (pcp_gateway_phase(record) == PCP_GATEWAY_ENDED)
                upgrade_ended(pcp_gateway_ending(record));
        }
@@ -225,10 +269,13 @@
        void on_timer(const uint8_t *package, size_t package_length)
        {
            uint8_t reply[PCP_GATEWAY_REPLY];
-           pcp_answer answer = pcp_gateway_next_message(
-               record, sizeof record, package, package_length, reply,
-               sizeof reply);
+           pcp_answer answer;
 
+           if (executing)
+               return;
+           answer = pcp_gateway_next_message(record, sizeof record, package,
+                                             package_length, reply,
+                                             sizeof reply);
            if (answer.length > 0)
                radio_send(reply, answer.length);
        }
@@ -310,7 +357,8 @@ enum {
     PCP_DEVICE_LOADED = 2,     /* has all; says so until it is answered */
     PCP_DEVICE_ACKED = 3,      /* waits for the order to install */
     PCP_DEVICE_FAILED = 4,     /* has all, but the package's check is not the
-                                  code announced; says so until answered */
+                                  code announced, which is not 0; says so until
+                                  answered */
     PCP_DEVICE_INSTALLING = 5, /* the host installs, and reports the end */
     PCP_DEVICE_REPORTING = 6   /* reports to the gateway until answered */
 };
@@ -446,6 +494,19 @@ static inline uint8_t *pcp_not_null_buffer(uint8_t *bytes, size_t length)
     return length == 0 ? nothing : bytes;
 }
 
+/* Numbers as the archive takes them.  One that does not fit becomes one that is
+   always refused; cut short, it could pass for another: 256, a wait status of a
+   failed installer, for PCP_INSTALLED.  Used by the functions below only. */
+static inline uint8_t pcp_byte_or_bad(int number)
+{
+    return number >= 0 && number <= 255 ? (uint8_t)number : 255;
+}
+
+static inline uint16_t pcp_size_or_bad(size_t size)
+{
+    return size <= 65535 ? (uint16_t)size : 0;
+}
+
 /* An answer, taken apart.  Used by the functions below only. */
 static inline pcp_answer pcp_answer_of(uint32_t raw)
 {
@@ -487,8 +548,9 @@ static inline uint8_t pcp_recognise_message(int supported, int pcp,
 }
 
 /* Makes the record of a device that runs this version: Idle, with nothing
-   downloaded.  The version is a text of 1 to 16 bytes from 20 to 7E hex; bytes
-   00 at its end count as not given.
+   downloaded.  The version is a text of 1 to 16 bytes from 20 to 7E hex.  Bytes
+   00 behind it are filling, as far as there are at most 16 bytes in all: an
+   array of 32 with a text and zeros, passed whole, is refused with 17.
    Numbers: 64, 17. */
 static inline uint8_t pcp_device_new(uint8_t *record, size_t record_length,
                                      const void *version,
@@ -510,18 +572,19 @@ static inline uint8_t pcp_device_new(uint8_t *record, size_t record_length,
    - 21 stores a fragment; with the last that was missing, the image is tested.
    - 22 and 24 are the gateway's answers to download result and report.
    - 23 brings Loaded or Acked to Installing.  The host that sees this phase
-     installs the image's first pcp_device_image_length bytes, once, and then
-     calls pcp_device_install_finished.
+     after a call with number 0 installs the image's first
+     pcp_device_image_length bytes, once, if it has that many, and then calls
+     pcp_device_install_finished.
    Numbers: 64, 15, 13, 29, 14, 1 to 8, 9, 10, 11, 12. */
 static inline pcp_answer pcp_device_receive(
     uint8_t *record, size_t record_length, int supported, int pcp,
-    uint8_t condition, const uint8_t *message, size_t message_length,
+    int condition, const uint8_t *message, size_t message_length,
     uint8_t *image, size_t image_length, uint8_t *map, size_t map_length,
     uint8_t *reply, size_t reply_length)
 {
     return pcp_answer_of(pcp_raw_device_receive(
         pcp_not_null_buffer(record, record_length), record_length,
-        supported != 0, pcp != 0, condition,
+        supported != 0, pcp != 0, pcp_byte_or_bad(condition),
         pcp_not_null(message, message_length), message_length,
         pcp_not_null_buffer(image, image_length), image_length,
         pcp_not_null_buffer(map, map_length), map_length,
@@ -549,10 +612,11 @@ static inline pcp_answer pcp_device_next_message(
    Numbers: 64, 29, 9, 16. */
 static inline uint8_t pcp_device_install_finished(uint8_t *record,
                                                   size_t record_length,
-                                                  uint8_t code)
+                                                  int code)
 {
     return pcp_raw_device_install_finished(
-        pcp_not_null_buffer(record, record_length), record_length, code);
+        pcp_not_null_buffer(record, record_length), record_length,
+        pcp_byte_or_bad(code));
 }
 
 /* Makes the record of a gateway that is to bring one device to this version
@@ -563,15 +627,15 @@ static inline uint8_t pcp_device_install_finished(uint8_t *record,
    Numbers: 64, 17, 18, 19. */
 static inline uint8_t pcp_gateway_start(uint8_t *record, size_t record_length,
                                         const void *version,
-                                        size_t version_length, uint16_t size,
+                                        size_t version_length, size_t size,
                                         const uint8_t *package,
                                         size_t package_length, int checked)
 {
     return pcp_raw_gateway_start(
         pcp_not_null_buffer(record, record_length), record_length,
         pcp_not_null((const uint8_t *)version, version_length), version_length,
-        size, pcp_not_null(package, package_length), package_length,
-        checked != 0);
+        pcp_size_or_bad(size), pcp_not_null(package, package_length),
+        package_length, checked != 0);
 }
 
 /* A message arrived at the gateway.  The two facts are those of
@@ -604,7 +668,8 @@ static inline pcp_answer pcp_gateway_next_message(
         pcp_not_null_buffer(reply, reply_length), reply_length));
 }
 
-/* Looking into a record, of PCP_DEVICE_RECORD or PCP_GATEWAY_RECORD bytes. */
+/* Looking into a record, of PCP_DEVICE_RECORD or PCP_GATEWAY_RECORD bytes.
+   Nothing is tested here: look after a call that gave 0. */
 
 static inline uint8_t pcp_device_phase(const uint8_t *record)
 {
@@ -636,7 +701,9 @@ static inline uint16_t pcp_device_stored(const uint8_t *record)
 }
 
 /* How many of the image's first bytes are the package, once all fragments are
-   stored (Loaded, Acked, Failed, Installing, Reporting). */
+   stored (Loaded, Acked, Failed, Installing, Reporting).  The value is only as
+   good as the record.  In Loaded and Acked the calls see that the image has
+   that many (PCP_BAD_MEMORY), later they do not: compare before you use it. */
 static inline uint32_t pcp_device_image_length(const uint8_t *record)
 {
     uint32_t size = pcp_word(record + 33), total = pcp_device_total(record);

@@ -9,7 +9,8 @@
      at once if the record has changed
    - device_ask, gateway_ask: send what the end has to send; by a timer, for a
      message may have been lost
-   - device_install: the installer, begun once, and its end reported
+   - device_install, device_tick: the installer, begun once and only with what
+     the image holds, and its end reported
    - is_wanted, gateway_tick, gateway_next: which messages the gateway leaves
      unanswered, and when a new gateway takes over
 
@@ -212,8 +213,25 @@ static void device_count(struct device *device, const uint8_t *before,
         device->resumes++;
 }
 
-/* Only a changed record is a reason to ask at once.  A host that asked after
-   every arrival would double all that follows a repeated message. */
+/* Begun once, whatever arrives meanwhile.  A real installer copies the first
+   pcp_device_image_length bytes of the image to where they run.  In Installing
+   the library no longer compares that length with the image, so this is done
+   here: a longer one can only stand in a record that somebody else wrote. */
+static void device_install(struct device *device, unsigned long now)
+{
+    if (device->installing)
+        return;
+    if (pcp_device_image_length(device->record) > sizeof device->image)
+        note_number("pcp_device_image_length", PCP_BAD_RECORD);
+    device->installing = true;
+    device->installed_at = now + INSTALLATION;
+}
+
+/* The phase is looked at only when the number is 0: a record that was refused
+   may be none.  A device that is to go on after a restart would save record,
+   image and map before it sends the reply.  Only a changed record is a reason
+   to ask at once: a host that asked after every arrival would double all that
+   follows a repeated message. */
 static void device_receive(struct device *device, struct link *link,
                            unsigned long now, const struct message *message)
 {
@@ -226,10 +244,14 @@ static void device_receive(struct device *device, struct link *link,
         message->bytes, message->length, device->image, sizeof device->image,
         device->map, sizeof device->map, reply, sizeof reply);
     note_number("pcp_device_receive", answer.number);
+    device_count(device, before, message, answer, reply);
+    if (answer.number != PCP_HANDLED)
+        return;
     link_send(link, now, GATEWAY, reply, answer.length);
     if (device_changed(device, before))
         device->ask_at = now;
-    device_count(device, before, message, answer, reply);
+    if (pcp_device_phase(device->record) == PCP_DEVICE_INSTALLING)
+        device_install(device, now);
 }
 
 /* Asking changes nothing, so it is done again until an answer has come. */
@@ -247,28 +269,21 @@ static void device_ask(struct device *device, struct link *link,
     device->ask_at = now + RETRY;
 }
 
-/* Begun once, whatever arrives meanwhile.  A real one copies the first
-   pcp_device_image_length bytes of the image to where they run. */
-static void device_install(struct device *device, unsigned long now)
+static void device_installed(struct device *device, unsigned long now)
 {
-    if (!device->installing) {
-        device->installing = true;
-        device->installed_at = now + INSTALLATION;
-    } else if (now >= device->installed_at) {
-        device->installing = false;
-        note_number("pcp_device_install_finished",
-                    pcp_device_install_finished(device->record,
-                                                sizeof device->record,
-                                                PCP_INSTALLED));
-        device->ask_at = now; /* the report */
-    }
+    device->installing = false;
+    note_number("pcp_device_install_finished",
+                pcp_device_install_finished(device->record,
+                                            sizeof device->record,
+                                            PCP_INSTALLED));
+    device->ask_at = now; /* the report */
 }
 
 static void device_tick(struct device *device, struct link *link,
                         unsigned long now)
 {
-    if (pcp_device_phase(device->record) == PCP_DEVICE_INSTALLING)
-        device_install(device, now);
+    if (device->installing && now >= device->installed_at)
+        device_installed(device, now);
     if (now >= device->ask_at)
         device_ask(device, link, now);
 }
@@ -349,20 +364,25 @@ static void gateway_stands_still(struct gateway *gateway, unsigned long now)
 /* Whether the gateway is to get this message.  Before its offer is accepted,
    and when it is over, it would tell a device that asks for fragments, or has
    them all, that there is no such upgrade, and the device would drop what it
-   has.  Unanswered, the device asks again, and the next offer resumes.  A
-   report is answered always: the device is done, and any answer lets it rest. */
+   has.  Unanswered, the device asks again, and the next offer resumes.  But
+   that a download failed is answered at the end too, or the device would say it
+   for ever.  A report is answered always: the device is done, and any answer
+   lets it rest. */
 static bool is_wanted(const struct gateway *gateway,
                       const struct message *message)
 {
     uint8_t phase = pcp_gateway_phase(gateway->record);
+    bool serves = !gateway->over && (phase == PCP_GATEWAY_SERVE ||
+                                     phase == PCP_GATEWAY_RUN);
 
     switch (code_of(message)) {
     case PCP_UPGRADE_RESULT:
         return true;
     case PCP_FRAGMENT:
+        return serves;
     case PCP_DOWNLOAD_RESULT:
-        return !gateway->over &&
-               (phase == PCP_GATEWAY_SERVE || phase == PCP_GATEWAY_RUN);
+        return serves || pcp_gateway_ending(gateway->record) ==
+                             PCP_ENDING_DOWNLOAD_FAILED;
     default:
         return !gateway->over;
     }
@@ -376,6 +396,18 @@ static void gateway_handled(struct gateway *gateway, unsigned long now,
         gateway->requests++;
     if (code_of(message) == PCP_EXECUTE)
         gateway->executing = true;
+}
+
+/* Before the offer the gateway waits until what the device sent earlier, of its
+   own accord, has arrived: in Serve or Run it would count for this upgrade. */
+static void gateway_changed(struct gateway *gateway, unsigned long now,
+                            const struct message *message)
+{
+    bool offers = pcp_gateway_phase(gateway->record) == PCP_GATEWAY_OFFER;
+
+    gateway->ask_at = offers ? now + QUIET : now;
+    if (gateway_has_ended(gateway))
+        gateway_ended(gateway, now, message);
 }
 
 static void gateway_receive(struct gateway *gateway, struct link *link,
@@ -392,14 +424,12 @@ static void gateway_receive(struct gateway *gateway, struct link *link,
                                  gateway->package, gateway->package_length,
                                  reply, sizeof reply);
     note_number("pcp_gateway_receive", answer.number);
+    if (answer.number != PCP_HANDLED)
+        return;
     link_send(link, now, DEVICE, reply, answer.length);
-    if (answer.number == PCP_HANDLED)
-        gateway_handled(gateway, now, message, answer.length > 0);
-    if (memcmp(before, gateway->record, sizeof before) != 0) {
-        gateway->ask_at = now;
-        if (gateway_has_ended(gateway))
-            gateway_ended(gateway, now, message);
-    }
+    gateway_handled(gateway, now, message, answer.length > 0);
+    if (memcmp(before, gateway->record, sizeof before) != 0)
+        gateway_changed(gateway, now, message);
 }
 
 static void gateway_ask(struct gateway *gateway, struct link *link,

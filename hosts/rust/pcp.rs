@@ -184,14 +184,15 @@ pub struct Device {
 }
 
 impl Device {
-    /// A device that runs this version, a text of 1 to 16 bytes.
+    /// A device that runs this version, a text of 1 to 16 bytes; with 00 behind it, at most 16 in all.
     pub fn new(version: &[u8]) -> Result<Device, Refusal> {
         let mut record = [0; DEVICE_RECORD];
         done(raw::device_new(&mut record, version))?;
         Ok(Device { record })
     }
 
-    /// A device from a record that was put away; from any bytes, for calls refuse those that are no record.
+    /// A device from a record that was put away, as the last call left it; from any bytes, for calls refuse those that
+    /// are no record.
     pub fn from_record(record: [u8; DEVICE_RECORD]) -> Device {
         Device { record }
     }
@@ -227,7 +228,8 @@ impl Device {
         word_at(&self.record, 39)
     }
 
-    /// How many of the image's first bytes are the package, once all fragments are stored.
+    /// How many of the image's first bytes are the package, once all fragments are stored. Only as good as the record:
+    /// in Installing and Reporting no call has compared it with the image.
     pub fn image_length(&self) -> usize {
         let last = usize::from(word_at(&self.record, 41));
         match usize::from(self.total()) {
@@ -283,7 +285,8 @@ impl Gateway {
         Ok(Gateway { record })
     }
 
-    /// A gateway from a record that was put away; from any bytes, for calls refuse those that are no record.
+    /// A gateway from a record that was put away, as the last call left it; from any bytes, for calls refuse those that
+    /// are no record.
     pub fn from_record(record: [u8; GATEWAY_RECORD]) -> Gateway {
         Gateway { record }
     }

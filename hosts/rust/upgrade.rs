@@ -6,7 +6,7 @@
 //!
 //! - `receive`: lend the buffers, send the reply, and ask at once if the record has changed
 //! - `ask`: send what the end has to send; by a timer, for a message may have been lost
-//! - `DeviceHost::install`: the installer, begun once, and its end reported
+//! - `DeviceHost::install`, `tick`: the installer, begun once and only with what the image holds, and its end reported
 //! - `GatewayHost::wants`, `tick`, `next`: which messages the gateway leaves unanswered, and when a new gateway takes
 //!   over
 //!
@@ -175,10 +175,10 @@ impl Link {
 
 /// Bytes from the air can be refused with any of 1 to 12, and an end that is asked can have nothing to send; both are
 /// no concern. A higher number means that this program lends or states something wrong, and going on would not mend it.
-fn expected<T: Default>(call: &'static str, answer: Result<T, Refusal>) -> Result<T, Failure> {
+fn expected<T>(call: &'static str, answer: Result<T, Refusal>) -> Result<Option<T>, Failure> {
     match answer {
         Err(refusal) if refusal.0 >= Refusal::UNKNOWN_CONDITION.0 => Err(Failure::Call(call, refusal)),
-        answer => Ok(answer.unwrap_or_default()),
+        answer => Ok(answer.ok()),
     }
 }
 
@@ -233,8 +233,9 @@ impl DeviceHost {
         }
     }
 
-    /// Only a changed record is a reason to ask at once. A host that asked after every arrival would double all that
-    /// follows a repeated message.
+    /// The phase is looked at only when the call was not refused: a record that was may be none. A device that is to
+    /// go on after a restart would save record, image and map before it sends the reply. Only a changed record is a
+    /// reason to ask at once: a host that asked after every arrival would double all that follows a repeated message.
     fn receive(&mut self, link: &mut Link, now: Ticks, message: &[u8]) -> Result<(), Failure> {
         let before = self.device.clone();
         let condition = self.condition();
@@ -242,9 +243,15 @@ impl DeviceHost {
         let (image, map) = (&mut self.image, &mut self.map);
         let answer = self.device.receive(Facts::BOTH, condition, message, image, map, &mut reply);
         self.count(&before, message, answer);
-        link.send(now, End::Gateway, expected("Device::receive", answer)?);
+        let Some(reply) = expected("Device::receive", answer)? else {
+            return Ok(());
+        };
+        link.send(now, End::Gateway, reply);
         if self.device != before {
             self.ask_at = now;
+        }
+        if self.device.phase() == device_phase::INSTALLING {
+            self.install(now)?;
         }
         Ok(())
     }
@@ -261,30 +268,35 @@ impl DeviceHost {
     fn ask(&mut self, link: &mut Link, now: Ticks) -> Result<(), Failure> {
         let mut reply = [0; DEVICE_REPLY];
         let answer = self.device.next_message(&self.image, &self.map, &mut reply);
-        link.send(now, End::Gateway, expected("Device::next_message", answer)?);
+        link.send(now, End::Gateway, expected("Device::next_message", answer)?.unwrap_or_default());
         self.ask_at = now + RETRY;
         Ok(())
     }
 
-    /// Begun once, whatever arrives meanwhile. A real one copies the first `image_length` bytes of the image to where
-    /// they run.
+    /// Begun once, whatever arrives meanwhile. A real installer copies the first `image_length` bytes of the image to
+    /// where they run. In Installing the library no longer compares that length with the image, so this is done here: a
+    /// longer one can only stand in a record that somebody else wrote.
     fn install(&mut self, now: Ticks) -> Result<(), Failure> {
-        match self.installed_at {
-            None => self.installed_at = Some(now + INSTALLATION),
-            Some(done) if now >= done => {
-                self.installed_at = None;
-                let answer = self.device.install_finished(install::INSTALLED);
-                expected("Device::install_finished", answer)?;
-                self.ask_at = now; // the report
-            }
-            Some(_) => {}
+        if self.installed_at.is_some() {
+            return Ok(());
         }
+        if self.device.image_length() > self.image.len() {
+            return Err(Failure::Call("Device::image_length", Refusal::BAD_RECORD));
+        }
+        self.installed_at = Some(now + INSTALLATION);
+        Ok(())
+    }
+
+    fn installed(&mut self, now: Ticks) -> Result<(), Failure> {
+        self.installed_at = None;
+        expected("Device::install_finished", self.device.install_finished(install::INSTALLED))?;
+        self.ask_at = now; // the report
         Ok(())
     }
 
     fn tick(&mut self, link: &mut Link, now: Ticks) -> Result<(), Failure> {
-        if self.device.phase() == device_phase::INSTALLING {
-            self.install(now)?;
+        if self.installed_at.is_some_and(|done| now >= done) {
+            self.installed(now)?;
         }
         if now >= self.ask_at {
             self.ask(link, now)?;
@@ -353,14 +365,17 @@ impl<'a> GatewayHost<'a> {
 
     /// Whether the gateway is to get this message. Before its offer is accepted, and when it is over, it would tell a
     /// device that asks for fragments, or has them all, that there is no such upgrade, and the device would drop what
-    /// it has. Unanswered, the device asks again, and the next offer resumes. A report is answered always: the device
-    /// is done, and any answer lets it rest.
+    /// it has. Unanswered, the device asks again, and the next offer resumes. But that a download failed is answered
+    /// at the end too, or the device would say it for ever. A report is answered always: the device is done, and any
+    /// answer lets it rest.
     fn wants(&self, message: &[u8]) -> bool {
-        let serves = [gateway_phase::SERVE, gateway_phase::RUN].contains(&self.gateway.phase());
+        let at_work = self.over_at.is_none();
+        let serves = at_work && [gateway_phase::SERVE, gateway_phase::RUN].contains(&self.gateway.phase());
         match code_of(message) {
             code::UPGRADE_RESULT => true,
-            code::FRAGMENT | code::DOWNLOAD_RESULT => self.over_at.is_none() && serves,
-            _ => self.over_at.is_none(),
+            code::FRAGMENT => serves,
+            code::DOWNLOAD_RESULT => serves || self.gateway.ending() == ending::DOWNLOAD_FAILED,
+            _ => at_work,
         }
     }
 
@@ -371,17 +386,25 @@ impl<'a> GatewayHost<'a> {
         let before = self.gateway.clone();
         let mut reply = [0; GATEWAY_REPLY];
         let answer = self.gateway.receive(Facts::BOTH, message, self.package, &mut reply);
-        if let Ok(reply) = answer {
-            self.handled(now, message, reply);
-        }
-        link.send(now, End::Device, expected("Gateway::receive", answer)?);
+        let Some(reply) = expected("Gateway::receive", answer)? else {
+            return Ok(());
+        };
+        link.send(now, End::Device, reply);
+        self.handled(now, message, reply);
         if self.gateway != before {
-            self.ask_at = now;
-            if self.has_ended() {
-                self.ended(now, message);
-            }
+            self.changed(now, message);
         }
         Ok(())
+    }
+
+    /// Before the offer the gateway waits until what the device sent earlier, of its own accord, has arrived: in Serve
+    /// or Run it would count for this upgrade.
+    fn changed(&mut self, now: Ticks, message: &[u8]) {
+        let offers = self.gateway.phase() == gateway_phase::OFFER;
+        self.ask_at = if offers { now + QUIET } else { now };
+        if self.has_ended() {
+            self.ended(now, message);
+        }
     }
 
     fn handled(&mut self, now: Ticks, message: &[u8], reply: &[u8]) {
@@ -420,7 +443,7 @@ impl<'a> GatewayHost<'a> {
     fn ask(&mut self, link: &mut Link, now: Ticks) -> Result<(), Failure> {
         let mut reply = [0; GATEWAY_REPLY];
         let answer = self.gateway.next_message(self.package, &mut reply);
-        link.send(now, End::Device, expected("Gateway::next_message", answer)?);
+        link.send(now, End::Device, expected("Gateway::next_message", answer)?.unwrap_or_default());
         self.ask_at = now + RETRY;
         Ok(())
     }

@@ -1,9 +1,11 @@
 /* Compares the library, through its header, with a second implementation that
    is written here from 01 and shares no code with it, on published, valid,
-   damaged and random messages.  The inputs are the same in every run. */
+   damaged and random messages.  The inputs are the same in every run.  Also
+   tries numbers that only the header's types can hold. */
 #define _DEFAULT_SOURCE /* for MAP_ANONYMOUS */
 #include "pcp.h"
 
+#include <limits.h>
 #include <stdio.h>
 #include <stdlib.h>
 #include <string.h>
@@ -470,6 +472,109 @@ static void try_long(void)
     compare(LONGEST, ANY);
 }
 
+/* Numbers that the archive's types cannot hold are refused as bad ones, where
+   such a test stands in 01's order.  Cut short, some of them would be good. */
+
+static const int wide[] = {-1,  -128, -256,   255,     256,     257,
+                           260, 4096, 0x7F00, 0x10000, INT_MAX, INT_MIN};
+enum { WIDE = sizeof wide / sizeof wide[0] };
+
+static uint8_t record[PCP_DEVICE_RECORD], image[500], map[1];
+
+static unsigned device_given(const char *hex, int condition, size_t room)
+{
+    uint8_t reply[PCP_DEVICE_REPLY];
+    size_t length = make_from_hex(hex);
+
+    return pcp_device_receive(record, sizeof record, 1, 1, condition, message,
+                              length, image, sizeof image, map, sizeof map,
+                              reply, room)
+        .number;
+}
+
+static void expect_refused(const char *what, unsigned number, unsigned got,
+                           const uint8_t *before)
+{
+    expect(what, number, got, record, sizeof record);
+    expect("record of a refused call", 0,
+           memcmp(before, record, sizeof record) != 0, record, sizeof record);
+    compared++;
+}
+
+static void try_wide_conditions(void)
+{
+    static const char query[] = "FFFE01134C9A0000";
+    uint8_t before[PCP_DEVICE_RECORD];
+
+    memcpy(before, record, sizeof before);
+    for (size_t i = 0; i < WIDE; i++) {
+        expect_refused("wide condition", PCP_UNKNOWN_CONDITION,
+                       device_given(query, wide[i], PCP_DEVICE_REPLY), before);
+        expect_refused("wide condition, short reply", PCP_SHORT_REPLY,
+                       device_given(query, wide[i], PCP_DEVICE_REPLY - 1),
+                       before);
+    }
+}
+
+static void try_wide_install_codes(unsigned number)
+{
+    uint8_t before[PCP_DEVICE_RECORD];
+
+    memcpy(before, record, sizeof before);
+    for (size_t i = 0; i < WIDE; i++)
+        expect_refused("wide installer code", number,
+                       pcp_device_install_finished(record, sizeof record,
+                                                   wide[i]),
+                       before);
+}
+
+/* The download that 01 prints brings the device to Installing. */
+static void try_wide_at_device(void)
+{
+    static const char *const download[] = {
+        "FFFE01143AE6001656312E3000000000000000000000000001F400010000",
+        "FFFE0115E107001300000048454C4C4F2C20496F5420534F544121",
+        "FFFE0117CF900000"};
+
+    expect("making", 0, pcp_device_new(record, sizeof record, "V0.9", 4),
+           record, sizeof record);
+    try_wide_conditions();
+    try_wide_install_codes(PCP_NO_USE);
+    for (size_t i = 0; i < sizeof download / sizeof download[0]; i++)
+        expect("download", 0,
+               device_given(download[i], PCP_READY, PCP_DEVICE_REPLY), record,
+               sizeof record);
+    try_wide_install_codes(PCP_BAD_INSTALL_CODE);
+    expect("installer code", 0,
+           pcp_device_install_finished(record, sizeof record, PCP_INSTALLED),
+           record, sizeof record);
+}
+
+static unsigned started(const char *version, size_t size, size_t package)
+{
+    return pcp_gateway_start(record, sizeof record, version, 4, size, image,
+                             package, 1);
+}
+
+static void try_wide_sizes(void)
+{
+    static const size_t size[] = {65536 + 500, 65536 + 32, 65536, 131072 + 256,
+                                  (size_t)INT_MAX + 1 + 500,
+                                  SIZE_MAX - 65535 + 500, SIZE_MAX};
+    uint8_t before[PCP_DEVICE_RECORD];
+
+    memcpy(before, record, sizeof before);
+    for (size_t i = 0; i < sizeof size / sizeof size[0]; i++) {
+        expect_refused("wide size", PCP_BAD_SIZE, started("V1.0", size[i], 500),
+                       before);
+        expect_refused("wide size, no package", PCP_BAD_SIZE,
+                       started("V1.0", size[i], 0), before);
+        expect_refused("wide size, bad version", PCP_BAD_VERSION_TEXT,
+                       started("V1\n0", size[i], 500), before);
+    }
+    expect("size", 0, started("V1.0", 500, 500), record, sizeof record);
+}
+
 int main(void)
 {
     uint8_t *room = mmap(NULL, (size_t)LONGEST + GUARD, PROT_READ | PROT_WRITE,
@@ -491,6 +596,8 @@ int main(void)
     try_facts();
     try_random();
     try_long();
+    try_wide_at_device();
+    try_wide_sizes();
 
     printf("c host: %lu compared, %lu different\n", compared, different);
     return different == 0 ? EXIT_SUCCESS : EXIT_FAILURE;
