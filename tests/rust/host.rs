@@ -2,30 +2,12 @@
 //! code with it, on printed, faulty, damaged and random messages. The inputs are the same in every
 //! run.
 
+#[path = "../../hosts/rust/pcp.rs"]
+mod pcp;
+
+use pcp::raw as library;
 use std::fmt::UpperHex;
 use std::process::ExitCode;
-
-/// The library's functions, safe to call: a slice's pointer is never null, and all of it is
-/// readable.
-mod library {
-    extern "C" {
-        fn pcp_check(bytes: *const u8, length: usize) -> u16;
-        fn pcp_message_check(message: *const u8, length: usize) -> u16;
-        fn pcp_recognise(supported: u8, pcp: u8, message: *const u8, length: usize) -> u8;
-    }
-
-    pub fn check(bytes: &[u8]) -> u16 {
-        unsafe { pcp_check(bytes.as_ptr(), bytes.len()) }
-    }
-
-    pub fn message_check(message: &[u8]) -> u16 {
-        unsafe { pcp_message_check(message.as_ptr(), message.len()) }
-    }
-
-    pub fn recognise(supported: u8, pcp: u8, message: &[u8]) -> u8 {
-        unsafe { pcp_recognise(supported, pcp, message.as_ptr(), message.len()) }
-    }
-}
 
 /// 01, "The message and its check" and "Recognising a message".
 struct Model {
