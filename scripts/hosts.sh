@@ -48,9 +48,12 @@ last_line() {
     fi
 }
 
-# What a Rust program needs to call the library through tests/c/boundary.c; the archive comes after it.
-boundary=(--cfg boundary -C linker=gcc -C default-linker-libraries=yes -C link-arg="${sanitizers[0]}"
-    -C link-arg=target/hosts/boundary.o)
+# What a Rust program needs so that its calls of the library pass through tests/c/boundary.c; the archive comes after it.
+boundary=(-C linker=gcc -C default-linker-libraries=yes -C link-arg="${sanitizers[0]}" -C link-arg=target/hosts/boundary.o)
+for symbol in check message_check recognise raw_device_{new,receive,next_message,install_finished} \
+    raw_gateway_{start,receive,next_message}; do
+    boundary+=(-C "link-arg=-Wl,--wrap=pcp_$symbol")
+done
 
 # boundary_object: compiles tests/c/boundary.c with sanitizers.
 boundary_object() {

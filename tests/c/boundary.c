@@ -4,6 +4,20 @@
    be used, then right behind such memory.  A use of a byte outside stops the
    program; so does a result that depends on the place. */
 #define _DEFAULT_SOURCE /* for MAP_ANONYMOUS */
+
+/* Linked with --wrap for each of the archive's symbols: what the runner calls
+   is the function __wrap_ below, and what the header calls is __real_, the
+   archive's own. */
+#define pcp_check __real_pcp_check
+#define pcp_message_check __real_pcp_message_check
+#define pcp_recognise __real_pcp_recognise
+#define pcp_raw_device_new __real_pcp_raw_device_new
+#define pcp_raw_device_receive __real_pcp_raw_device_receive
+#define pcp_raw_device_next_message __real_pcp_raw_device_next_message
+#define pcp_raw_device_install_finished __real_pcp_raw_device_install_finished
+#define pcp_raw_gateway_start __real_pcp_raw_gateway_start
+#define pcp_raw_gateway_receive __real_pcp_raw_gateway_receive
+#define pcp_raw_gateway_next_message __real_pcp_raw_gateway_next_message
 #include "pcp.h"
 
 #include <stdio.h>
@@ -206,21 +220,21 @@ static uint32_t gateway_next_message(const call *c, uint8_t *const at[BUFFERS])
 
 /* What the runner calls: as the archive's own symbols, see the header. */
 
-uint16_t boundary_check(const uint8_t *bytes, size_t length)
+uint16_t __wrap_pcp_check(const uint8_t *bytes, size_t length)
 {
     call c = {.buffers[INPUT] = reads(bytes, length)};
 
     return (uint16_t)make(check, &c);
 }
 
-uint16_t boundary_message_check(const uint8_t *message, size_t length)
+uint16_t __wrap_pcp_message_check(const uint8_t *message, size_t length)
 {
     call c = {.buffers[INPUT] = reads(message, length)};
 
     return (uint16_t)make(message_check, &c);
 }
 
-uint8_t boundary_recognise(uint8_t supported, uint8_t pcp,
+uint8_t __wrap_pcp_recognise(uint8_t supported, uint8_t pcp,
                            const uint8_t *message, size_t length)
 {
     call c = {.buffers[INPUT] = reads(message, length),
@@ -230,7 +244,7 @@ uint8_t boundary_recognise(uint8_t supported, uint8_t pcp,
     return (uint8_t)make(recognise, &c);
 }
 
-uint8_t boundary_device_new(uint8_t *record, size_t record_length,
+uint8_t __wrap_pcp_raw_device_new(uint8_t *record, size_t record_length,
                             const uint8_t *version, size_t version_length)
 {
     call c = {.buffers[RECORD] = writes(record, record_length),
@@ -239,7 +253,7 @@ uint8_t boundary_device_new(uint8_t *record, size_t record_length,
     return (uint8_t)make(device_new, &c);
 }
 
-uint32_t boundary_device_receive(uint8_t *record, size_t record_length,
+uint32_t __wrap_pcp_raw_device_receive(uint8_t *record, size_t record_length,
                                  uint8_t supported, uint8_t pcp,
                                  uint8_t condition, const uint8_t *message,
                                  size_t message_length, uint8_t *image,
@@ -259,7 +273,7 @@ uint32_t boundary_device_receive(uint8_t *record, size_t record_length,
     return make(device_receive, &c);
 }
 
-uint32_t boundary_device_next_message(const uint8_t *record,
+uint32_t __wrap_pcp_raw_device_next_message(const uint8_t *record,
                                       size_t record_length,
                                       const uint8_t *image, size_t image_length,
                                       const uint8_t *map, size_t map_length,
@@ -273,7 +287,7 @@ uint32_t boundary_device_next_message(const uint8_t *record,
     return make(device_next_message, &c);
 }
 
-uint8_t boundary_device_install_finished(uint8_t *record, size_t record_length,
+uint8_t __wrap_pcp_raw_device_install_finished(uint8_t *record, size_t record_length,
                                          uint8_t code)
 {
     call c = {.buffers[RECORD] = writes(record, record_length), .code = code};
@@ -281,7 +295,7 @@ uint8_t boundary_device_install_finished(uint8_t *record, size_t record_length,
     return (uint8_t)make(device_install_finished, &c);
 }
 
-uint8_t boundary_gateway_start(uint8_t *record, size_t record_length,
+uint8_t __wrap_pcp_raw_gateway_start(uint8_t *record, size_t record_length,
                                const uint8_t *version, size_t version_length,
                                uint16_t size, const uint8_t *package,
                                size_t package_length, uint8_t checked)
@@ -295,7 +309,7 @@ uint8_t boundary_gateway_start(uint8_t *record, size_t record_length,
     return (uint8_t)make(gateway_start, &c);
 }
 
-uint32_t boundary_gateway_receive(uint8_t *record, size_t record_length,
+uint32_t __wrap_pcp_raw_gateway_receive(uint8_t *record, size_t record_length,
                                   uint8_t supported, uint8_t pcp,
                                   const uint8_t *message, size_t message_length,
                                   const uint8_t *package, size_t package_length,
@@ -311,7 +325,7 @@ uint32_t boundary_gateway_receive(uint8_t *record, size_t record_length,
     return make(gateway_receive, &c);
 }
 
-uint32_t boundary_gateway_next_message(const uint8_t *record,
+uint32_t __wrap_pcp_raw_gateway_next_message(const uint8_t *record,
                                        size_t record_length,
                                        const uint8_t *package,
                                        size_t package_length, uint8_t *reply,

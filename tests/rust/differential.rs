@@ -3,6 +3,8 @@
 //! calls have not brought about all that can occur.
 
 mod calls;
+#[path = "../../hosts/rust/pcp.rs"]
+mod pcp;
 mod reading;
 mod support;
 

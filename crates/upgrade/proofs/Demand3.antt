@@ -19,7 +19,8 @@ use Rattle.device_record.specs.declared.Device.{Device}
 use Rattle.device_record.specs.Record.{idle, loading, loaded, acked, failed}
 use Rattle.device.proofs.Views
 use Rattle.device.proofs.Views.{Input, hears, Out, spoken}
-use Rattle.device.proofs.Standing.{standing-under, package-stands, package-length}
+use Rattle.device.proofs.Standing.{standing, standing-under, package-stands, package-length}
+use Rattle.device.proofs.Sound.{Sound}
 use Rattle.gateway.specs.declared.Gateway.{Gateway}
 use Rattle.gateway.specs.Record as gateway
 use Rattle.message.specs.Limits.{sizeOk}
@@ -27,7 +28,7 @@ use Rattle.device_record.proofs.Ranges.{size-range}
 use Rattle.gateway.proofs.Package.{starts, total-covers, below-total, total-some, fragment-is}
 use Rattle.upgrade.specs.Fold.{after, Allowed}
 use Rattle.upgrade.specs.Calls.{DeviceEnd, DeviceCall, given, asked, installed, GatewayCall, gatewayNext, World, Call, atDevice, atGateway, next, May}
-use Rattle.upgrade.specs.Demand3.{Before, made, deviceThen, gatewayThen, heldThen, Ready, start, worldAfter, Executed, ExecutedImage, ExecutedLength, InstalledBefore, Demand3, InstallLength}
+use Rattle.upgrade.specs.Demand3.{Before, made, deviceThen, gatewayThen, heldThen, Ready, start, worldAfter, Executed, ExecutedImage, InstalledBefore, Demand3, InstallLength}
 use Rattle.upgrade.proofs.Folds.{after-append, allowed-front, allowed-rest, always}
 use Rattle.upgrade.proofs.Air.{air-none}
 use Rattle.upgrade.proofs.Run.{Plan, Stretch, Run, untaken, taken, run-later}
@@ -89,6 +90,11 @@ module _ (e : DeviceEnd) (condition : ℕ) (input : Input) (i : input ≡ hears 
   answered-kept o (Views.moves phase m q) = (ap (λ (z : Out). z .device .fields) q, ap (λ (z : Out). z .device .last) q)
   answered-kept o (Views.executes c j l q) = (ap (λ (z : Out). z .device .fields) q, ap (λ (z : Out). z .device .last) q)
   answered-kept o (Views.reports code j l ok q) = (ap (λ (z : Out). z .device .fields) q, ap (λ (z : Out). z .device .last) q)
+
+-- the package stands in the image, and the record says how long it is
+record Whole (content : List ℕ) (e : DeviceEnd) : Type 0 where
+  image : take (length content) (e .image) ≡ content
+  long : e .device .fields .size * (e .device .fields .total - 1) + e .device .last ≡ length content
 
 -- ---- what the gateway offers
 
@@ -189,34 +195,36 @@ module _ (b : Before) (ready : Ready b) where
     success (untaken u) q z = absurd (not-success (w .gateway) (u .offering) q z)
     success (taken t) q z = t .success q z
 
-    -- a device that is full, and is given Execute, has the package
-    package-there : (c : DeviceCall) (condition : ℕ) → May w (atDevice c) → inputOf c ≡ hears condition (found execute) → Full (w .deviceEnd .device)
-        → Run plan w E I → take (length (b .content)) (w .deviceEnd .image) ≡ b .content
-    package-there c condition m k full (untaken u) = absurd (device-hears w c (u .said) m condition execute k)
-    package-there c condition m k full (taken t) =
-        let d : Device = w .deviceEnd .device in
-        package-stands (b .content) d (w .deviceEnd .image) (w .deviceEnd .map)
-        (standing-under (Stretch plan) (λ index bytes. bytes ≡ take (d .fields .size) (drop (index * d .fields .size) (b .content)))
-        d (w .deviceEnd .image) (w .deviceEnd .map) (λ _ index bytes _ q. rw (t .fields-are) (q ∙ fragment-is (b .content) _ index)) (t .sound))
-        (rw (t .fields-are) (rw total (total-covers (length (b .content)) _ some))) (full .0) (full .1) (full .2)
-
-    -- and says how long it is
-    length-there : (c : DeviceCall) (condition : ℕ) → May w (atDevice c) → inputOf c ≡ hears condition (found execute) → Full (w .deviceEnd .device)
-        → Run plan w E I → let d : Device = w .deviceEnd .device in d .fields .size * (d .fields .total - 1) + d .last ≡ length (b .content)
-    length-there c condition m k full (untaken u) = absurd (device-hears w c (u .said) m condition execute k)
-    length-there c condition m k full (taken t) =
-        let d : Device = w .deviceEnd .device in
-        package-length (b .content) d (w .deviceEnd .image) (w .deviceEnd .map)
-        (standing-under (Stretch plan) (λ index bytes. bytes ≡ take (d .fields .size) (drop (index * d .fields .size) (b .content)))
-        d (w .deviceEnd .image) (w .deviceEnd .map) (λ _ index bytes _ q. rw (t .fields-are) (q ∙ fragment-is (b .content) _ index)) (t .sound))
-        (rw (t .fields-are) (rw total (total-some n size some long))) (rw (t .fields-are) (rw total low)) (rw (t .fields-are) (rw total high))
-        (full .0) (full .1) (full .2)
+    -- a device that is full, and is given Execute, has the package, and says how long it is
+    whole-there : (c : DeviceCall) (condition : ℕ) → May w (atDevice c) → inputOf c ≡ hears condition (found execute) → Full (w .deviceEnd .device)
+        → Run plan w E I → Whole (b .content) (w .deviceEnd)
+    whole-there c condition m k full (untaken u) = absurd (device-hears w c (u .said) m condition execute k)
+    whole-there c condition m k full (taken t) =
+        record {
+          image = package-stands (b .content) d image map stretches (rw (t .fields-are) (rw total (total-covers n size some))) (full .0) (full .1) (full .2);
+          long = package-length (b .content) d image map stretches (rw (t .fields-are) (rw total (total-some n size some long)))
+              (rw (t .fields-are) (rw total low)) (rw (t .fields-are) (rw total high)) (full .0) (full .1) (full .2);
+        }
       where
+        d : Device
+        d = w .deviceEnd .device
+
+        image : List ℕ
+        image = w .deviceEnd .image
+
+        map : List ℕ
+        map = w .deviceEnd .map
+
         n : ℕ
         n = length (b .content)
 
         size : ℕ
         size = gateway.offered (gatewayThen b) .size
+
+        stretches : Sound (standing (λ index bytes. bytes ≡ take (d .fields .size) (drop (index * d .fields .size) (b .content)))) d image map
+        stretches =
+            standing-under (Stretch plan) (λ index bytes. bytes ≡ take (d .fields .size) (drop (index * d .fields .size) (b .content))) d image map
+            (λ _ index bytes _ q. rw (t .fields-are) (q ∙ fragment-is (b .content) _ index)) (t .sound)
 
         low : (gateway.totalOf n size - 1) * size ≤ n
         low = omega (arith, below-total n size some (gateway.totalOf n size - 1) (omega (arith, total-some n size some long)))
@@ -224,61 +232,46 @@ module _ (b : Before) (ready : Ready b) where
         high : n ≤ gateway.totalOf n size * size
         high = omega (arith, total-covers n size some, mul-comm size (gateway.totalOf n size))
 
-    answered-image : (c : Call) → Run plan w E I → May w c → Executed w c
-        → take (length (b .content)) (next (b .content) w c .deviceEnd .image) ≡ b .content
+    answered-whole : (c : Call) → Run plan w E I → May w c → Executed w c → Whole (b .content) (next (b .content) w c .deviceEnd)
     unfolding next
-    answered-image (atDevice (given supported pcp condition message reply)) r m x =
-        let c : DeviceCall = given supported pcp condition message reply in
-        let k : inputOf c ≡ hears condition (found execute) = ap (hears condition) (x .0) in
-        let a : Full (w .deviceEnd .device) × (outIn (w .deviceEnd) c .image ≡ w .deviceEnd .image) =
-        answered (w .deviceEnd) condition (inputOf c) k (outIn (w .deviceEnd) c) (sym (says-is (w .deviceEnd) c) ∙ x .1) (call-does (w .deviceEnd) c) in
-        ap (λ (e : DeviceEnd). take (length (b .content)) (e .image)) (next-is (w .deviceEnd) c) ∙ ap (take (length (b .content))) (a .1)
-        ∙ package-there c condition m k (a .0) r
-    answered-image (atDevice (asked reply)) r m x = absurd x
-    answered-image (atDevice (installed code)) r m x = absurd x
-    answered-image (atGateway c) r m x = absurd x
-
-    answered-length : (c : Call) → Run plan w E I → May w c → Executed w c
-        → let d : Device = next (b .content) w c .deviceEnd .device in d .fields .size * (d .fields .total - 1) + d .last ≡ length (b .content)
-    unfolding next
-    answered-length (atDevice (given supported pcp condition message reply)) r m x =
+    answered-whole (atDevice (given supported pcp condition message reply)) r m x =
         let c : DeviceCall = given supported pcp condition message reply in
         let k : inputOf c ≡ hears condition (found execute) = ap (hears condition) (x .0) in
         let o : Out = outIn (w .deviceEnd) c in
-        let full : Full (w .deviceEnd .device) =
-        answered (w .deviceEnd) condition (inputOf c) k o (sym (says-is (w .deviceEnd) c) ∙ x .1) (call-does (w .deviceEnd) c) .0 in
-        let same = answered-kept (w .deviceEnd) condition (inputOf c) k o (call-does (w .deviceEnd) c) in
-        ap (λ (e : DeviceEnd). e .device .fields .size * (e .device .fields .total - 1) + e .device .last) (next-is (w .deviceEnd) c)
-        ∙ ap₂ (λ (f : Fields) (last : ℕ). f .size * (f .total - 1) + last) (same .0) (same .1)
-        ∙ length-there c condition m k full r
-    answered-length (atDevice (asked reply)) r m x = absurd x
-    answered-length (atDevice (installed code)) r m x = absurd x
-    answered-length (atGateway c) r m x = absurd x
+        let does : DoesAt (w .deviceEnd) (inputOf c) o = call-does (w .deviceEnd) c in
+        let a : Full (w .deviceEnd .device) × (o .image ≡ w .deviceEnd .image) =
+        answered (w .deviceEnd) condition (inputOf c) k o (sym (says-is (w .deviceEnd) c) ∙ x .1) does in
+        let same : (o .device .fields ≡ w .deviceEnd .device .fields) × (o .device .last ≡ w .deviceEnd .device .last) =
+        answered-kept (w .deviceEnd) condition (inputOf c) k o does in
+        let whole : Whole (b .content) (w .deviceEnd) = whole-there c condition m k (a .0) r in
+        rw (next-is (w .deviceEnd) c) (record {
+          image = ap (take (length (b .content))) (a .1) ∙ whole .image;
+          long = ap₂ (λ (f : Fields) (last : ℕ). f .size * (f .total - 1) + last) (same .0) (same .1) ∙ whole .long;
+        })
+    answered-whole (atDevice (asked reply)) r m x = absurd x
+    answered-whole (atDevice (installed code)) r m x = absurd x
+    answered-whole (atGateway c) r m x = absurd x
 
-  executed-length : (calls : List Call) → Allows calls → ExecutedLength b calls
-  executed-length calls a earlier last split x =
+  executed-whole : (calls : List Call) → Allows calls → (earlier : List Call) (last : Call) → calls ≡ earlier ++ (last ∷ [])
+      → Executed (worldAfter b earlier) last → Whole (b .content) (worldAfter b calls .deviceEnd)
+  executed-whole calls a earlier last split x =
       let a′ : Allows (earlier ++ (last ∷ [])) = subst Allows split a in
       rw (split, after-append (next (b .content)) (start b) earlier (last ∷ []))
-      (answered-length (worldAfter b earlier) last
+      (answered-whole (worldAfter b earlier) last
       (inv earlier (allowed-front (next (b .content)) May (start b) earlier (last ∷ []) a′) .run)
       (allowed-rest (next (b .content)) May (start b) earlier (last ∷ []) a′ .0) x)
 
   -- ---- the first half
 
   executed-image : (calls : List Call) → Allows calls → ExecutedImage b calls
-  executed-image calls a earlier last split x =
-      let a′ : Allows (earlier ++ (last ∷ [])) = subst Allows split a in (
-        rw (split, after-append (next (b .content)) (start b) earlier (last ∷ []))
-            (answered-image (worldAfter b earlier) last
-            (inv earlier (allowed-front (next (b .content)) May (start b) earlier (last ∷ []) a′) .run)
-            (allowed-rest (next (b .content)) May (start b) earlier (last ∷ []) a′ .0) x),
-        λ some rest e.
-            past (worldAfter b some) (inv some (allowed-front (next (b .content)) May (start b) some rest (subst Allows e a)) .run),
-      )
+  executed-image calls a earlier last split x = (
+    executed-whole calls a earlier last split x .image,
+    λ some rest e. past (worldAfter b some) (inv some (allowed-front (next (b .content)) May (start b) some rest (subst Allows e a)) .run),
+  )
 
 pub demand-3 : Demand3
 demand-3 b ready calls a =
     (executed-image b ready calls a, λ q z. success b ready (worldAfter b calls) (inv b ready calls a .run) q z)
 
 pub install-length : InstallLength
-install-length b ready calls a = executed-length b ready calls a
+install-length b ready calls a earlier last split x = executed-whole b ready calls a earlier last split x .long

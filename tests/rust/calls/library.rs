@@ -1,104 +1,31 @@
-//! The library's exports, safe to call: a slice's pointer is never null, and all of it may be used. With
-//! `--cfg boundary` every call passes through tests/c/boundary.c, whose functions have the same arguments and results.
+//! The library's exports, by the wrapper for Rust. Linked with tests/c/boundary.c, every call passes through that.
 
+use crate::pcp::raw::{self, Answer};
 use crate::reading::boundary::Boundary;
-
-extern "C" {
-    #[cfg_attr(boundary, link_name = "boundary_check")]
-    fn pcp_check(bytes: *const u8, length: usize) -> u16;
-    #[cfg_attr(boundary, link_name = "boundary_message_check")]
-    fn pcp_message_check(message: *const u8, length: usize) -> u16;
-    #[cfg_attr(boundary, link_name = "boundary_recognise")]
-    fn pcp_recognise(supported: u8, pcp: u8, message: *const u8, length: usize) -> u8;
-    #[cfg_attr(boundary, link_name = "boundary_device_new")]
-    fn pcp_raw_device_new(
-        record: *mut u8,
-        record_length: usize,
-        version: *const u8,
-        version_length: usize,
-    ) -> u8;
-    #[cfg_attr(boundary, link_name = "boundary_device_receive")]
-    fn pcp_raw_device_receive(
-        record: *mut u8,
-        record_length: usize,
-        supported: u8,
-        pcp: u8,
-        condition: u8,
-        message: *const u8,
-        message_length: usize,
-        image: *mut u8,
-        image_length: usize,
-        map: *mut u8,
-        map_length: usize,
-        reply: *mut u8,
-        reply_length: usize,
-    ) -> u32;
-    #[cfg_attr(boundary, link_name = "boundary_device_next_message")]
-    fn pcp_raw_device_next_message(
-        record: *const u8,
-        record_length: usize,
-        image: *const u8,
-        image_length: usize,
-        map: *const u8,
-        map_length: usize,
-        reply: *mut u8,
-        reply_length: usize,
-    ) -> u32;
-    #[cfg_attr(boundary, link_name = "boundary_device_install_finished")]
-    fn pcp_raw_device_install_finished(record: *mut u8, record_length: usize, code: u8) -> u8;
-    #[cfg_attr(boundary, link_name = "boundary_gateway_start")]
-    fn pcp_raw_gateway_start(
-        record: *mut u8,
-        record_length: usize,
-        version: *const u8,
-        version_length: usize,
-        size: u16,
-        package: *const u8,
-        package_length: usize,
-        checked: u8,
-    ) -> u8;
-    #[cfg_attr(boundary, link_name = "boundary_gateway_receive")]
-    fn pcp_raw_gateway_receive(
-        record: *mut u8,
-        record_length: usize,
-        supported: u8,
-        pcp: u8,
-        message: *const u8,
-        message_length: usize,
-        package: *const u8,
-        package_length: usize,
-        reply: *mut u8,
-        reply_length: usize,
-    ) -> u32;
-    #[cfg_attr(boundary, link_name = "boundary_gateway_next_message")]
-    fn pcp_raw_gateway_next_message(
-        record: *const u8,
-        record_length: usize,
-        package: *const u8,
-        package_length: usize,
-        reply: *mut u8,
-        reply_length: usize,
-    ) -> u32;
-}
 
 /// The boundary as the archive has it.
 pub struct Library;
 
+/// An answer as the archive gives it.
+fn packed(answer: Answer) -> u32 {
+    u32::from(answer.number) + 256 * answer.length as u32
+}
+
 impl Boundary for Library {
     fn check(&self, bytes: &[u8]) -> u16 {
-        unsafe { pcp_check(bytes.as_ptr(), bytes.len()) }
+        raw::check(bytes)
     }
 
     fn message_check(&self, message: &[u8]) -> u16 {
-        unsafe { pcp_message_check(message.as_ptr(), message.len()) }
+        raw::message_check(message)
     }
 
     fn recognise(&self, [supported, pcp]: [u8; 2], message: &[u8]) -> u8 {
-        unsafe { pcp_recognise(supported, pcp, message.as_ptr(), message.len()) }
+        raw::recognise(supported, pcp, message)
     }
 
     fn device_new(&self, record: &mut [u8], version: &[u8]) -> u8 {
-        unsafe { pcp_raw_device_new(record.as_mut_ptr(), record.len(), version.as_ptr(), version.len()) }
+        raw::device_new(record, version)
     }
 
     fn device_receive(
@@ -111,57 +38,19 @@ impl Boundary for Library {
         map: &mut [u8],
         reply: &mut [u8],
     ) -> u32 {
-        unsafe {
-            pcp_raw_device_receive(
-                record.as_mut_ptr(),
-                record.len(),
-                supported,
-                pcp,
-                condition,
-                message.as_ptr(),
-                message.len(),
-                image.as_mut_ptr(),
-                image.len(),
-                map.as_mut_ptr(),
-                map.len(),
-                reply.as_mut_ptr(),
-                reply.len(),
-            )
-        }
+        packed(raw::device_receive(record, supported, pcp, condition, message, image, map, reply))
     }
 
     fn device_next_message(&self, record: &[u8], image: &[u8], map: &[u8], reply: &mut [u8]) -> u32 {
-        unsafe {
-            pcp_raw_device_next_message(
-                record.as_ptr(),
-                record.len(),
-                image.as_ptr(),
-                image.len(),
-                map.as_ptr(),
-                map.len(),
-                reply.as_mut_ptr(),
-                reply.len(),
-            )
-        }
+        packed(raw::device_next_message(record, image, map, reply))
     }
 
     fn device_install_finished(&self, record: &mut [u8], code: u8) -> u8 {
-        unsafe { pcp_raw_device_install_finished(record.as_mut_ptr(), record.len(), code) }
+        raw::device_install_finished(record, code)
     }
 
     fn gateway_start(&self, record: &mut [u8], version: &[u8], size: u16, package: &[u8], checked: u8) -> u8 {
-        unsafe {
-            pcp_raw_gateway_start(
-                record.as_mut_ptr(),
-                record.len(),
-                version.as_ptr(),
-                version.len(),
-                size,
-                package.as_ptr(),
-                package.len(),
-                checked,
-            )
-        }
+        raw::gateway_start(record, version, size, package, checked)
     }
 
     fn gateway_receive(
@@ -172,32 +61,10 @@ impl Boundary for Library {
         package: &[u8],
         reply: &mut [u8],
     ) -> u32 {
-        unsafe {
-            pcp_raw_gateway_receive(
-                record.as_mut_ptr(),
-                record.len(),
-                supported,
-                pcp,
-                message.as_ptr(),
-                message.len(),
-                package.as_ptr(),
-                package.len(),
-                reply.as_mut_ptr(),
-                reply.len(),
-            )
-        }
+        packed(raw::gateway_receive(record, supported, pcp, message, package, reply))
     }
 
     fn gateway_next_message(&self, record: &[u8], package: &[u8], reply: &mut [u8]) -> u32 {
-        unsafe {
-            pcp_raw_gateway_next_message(
-                record.as_ptr(),
-                record.len(),
-                package.as_ptr(),
-                package.len(),
-                reply.as_mut_ptr(),
-                reply.len(),
-            )
-        }
+        packed(raw::gateway_next_message(record, package, reply))
     }
 }
