@@ -243,8 +243,9 @@ impl DeviceHost {
         let (image, map) = (&mut self.image, &mut self.map);
         let answer = self.device.receive(Facts::BOTH, condition, message, image, map, &mut reply);
         self.count(&before, message, answer);
-        let Some(reply) = expected("Device::receive", answer)? else {
-            return Ok(());
+        let reply = match expected("Device::receive", answer)? {
+            Some(reply) => reply,
+            None => return Ok(()),
         };
         link.send(now, End::Gateway, reply);
         if self.device != before {
@@ -295,7 +296,7 @@ impl DeviceHost {
     }
 
     fn tick(&mut self, link: &mut Link, now: Ticks) -> Result<(), Failure> {
-        if self.installed_at.is_some_and(|done| now >= done) {
+        if self.installed_at.map_or(false, |done| now >= done) {
             self.installed(now)?;
         }
         if now >= self.ask_at {
@@ -386,8 +387,9 @@ impl<'a> GatewayHost<'a> {
         let before = self.gateway.clone();
         let mut reply = [0; GATEWAY_REPLY];
         let answer = self.gateway.receive(Facts::BOTH, message, self.package, &mut reply);
-        let Some(reply) = expected("Gateway::receive", answer)? else {
-            return Ok(());
+        let reply = match expected("Gateway::receive", answer)? {
+            Some(reply) => reply,
+            None => return Ok(()),
         };
         link.send(now, End::Device, reply);
         self.handled(now, message, reply);

@@ -288,8 +288,8 @@ static void try_damaged_bytes(size_t length)
     }
 }
 
-/* Two neighbours outside the check field, xored with 0A and C3, leave the check
-   the same: in the data this goes unnoticed, in the length it gives 7. */
+/* The check does not see a change by 0A and C3 in two bytes side by side: in
+   the data it goes unnoticed, in the length it gives 7. */
 static void try_blind_spot(size_t length)
 {
     static const int in_header[] = {3, 3, 4, ANY, ANY, ANY, 7, 7};

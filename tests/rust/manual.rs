@@ -1,6 +1,6 @@
 //! `manual MANUAL HEADER` carries out the worked exchange of docs/MANUAL.md through the library, and compares each line
 //! of it with what the library gives. It also sees that the manual's tables have every constant of include/pcp.h, with
-//! its value. So the manual says what the library does.
+//! its value. What else the manual says is not tested here.
 //!
 //! The exchange is what stands in the blocks marked `exchange`, in their order. A step is a line that begins with a
 //! call (`Exchange::step` knows them all) and the indented lines behind it. The number of blanks is free.
@@ -246,9 +246,9 @@ impl Exchange {
 
     /// `#3` is the third message on the air, which must be of that end; anything else is the message itself.
     fn message(&self, word: &str, from: End) -> Result<Vec<u8>, String> {
-        let Some(place) = word.strip_prefix('#') else {
-            let digits = word.len() % 2 == 0 && word.bytes().all(|digit| digit.is_ascii_hexdigit());
-            return if digits { Ok(bytes(word)) } else { Err(format!("{} is no message", word)) };
+        let place = match word.strip_prefix('#') {
+            Some(place) => place,
+            None => return hex_message(word),
         };
         let sent = self.air.get(number_in::<usize>(place)?.wrapping_sub(1));
         let message = sent.filter(|(sender, _)| *sender == from).map(|(_, message)| message.clone());
@@ -281,13 +281,23 @@ fn changed_line(changed: Vec<String>) -> Option<String> {
     (!changed.is_empty()).then(|| format!("changed: {}", changed.join(", ")))
 }
 
+fn hex_message(word: &str) -> Result<Vec<u8>, String> {
+    if word.len() % 2 == 0 && word.bytes().all(|digit| digit.is_ascii_hexdigit()) {
+        Ok(bytes(word))
+    } else {
+        Err(format!("{} is no message", word))
+    }
+}
+
 /// A message that a call gave is the next on the air; its line says which.
 fn put_on_air(air: &mut Vec<(End, Vec<u8>)>, end: End, answer: Result<&[u8], Refusal>) -> Vec<String> {
-    let Some(message) = answer.ok().filter(|message| !message.is_empty()) else {
-        return Vec::new();
-    };
-    air.push((end, message.to_vec()));
-    vec![format!("#{} {}", air.len(), hex(message))]
+    match answer {
+        Ok(message) if !message.is_empty() => {
+            air.push((end, message.to_vec()));
+            vec![format!("#{} {}", air.len(), hex(message))]
+        }
+        _ => Vec::new(),
+    }
 }
 
 /// A step of the manual: the number of its line, and its lines.
@@ -374,8 +384,9 @@ fn compare_constants(manual: &str, header: &str) -> Result<usize, String> {
 
 fn run() -> Result<String, String> {
     let paths: Vec<String> = env::args().skip(1).collect();
-    let [manual, header] = &paths[..] else {
-        return Err("usage: manual MANUAL HEADER".to_string());
+    let (manual, header) = match &paths[..] {
+        [manual, header] => (manual, header),
+        _ => return Err("usage: manual MANUAL HEADER".to_string()),
     };
     let read = |path: &String| fs::read_to_string(path).map_err(|error| format!("{}: {}", path, error));
     let (manual, header) = (read(manual)?, read(header)?);

@@ -1,5 +1,5 @@
--- Steps lose information: two neighbouring bytes, both outside the check field, xored with 0A and C3 leave the check the same (01, "The
--- message and its check"). Assumes nothing.
+-- What the check cannot see: a change by 0A and C3 in two bytes next to each other, if neither is in the check field (01, "The message
+-- and its check"). Assumes nothing.
 use Prim.Native.Nat.{ℕ, zero, suc, _+_, _/_, _%_, _<_}
 use native.Mathlib.Nat.{zero-add, le-of-suc-le-suc, not-suc-le-zero}
 use native.Mathlib.Numerals.{add-one}

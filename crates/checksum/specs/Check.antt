@@ -6,7 +6,7 @@ use lib.Bits.{bitXor}
 use lib.ListN.{set}
 use Rattle.basis.specs.Choice.{pick}
 
--- doubled; when the result reaches 65,536 that bit is dropped and the rest xored with hex 1021
+-- times two; a seventeenth bit is taken away, and 1021 (hex) xored in for it
 unfoldable pub doubled : ℕ → ℕ
 doubled e = pick (ltb (e * 2) 65536) (e * 2) (bitXor (e * 2 - 65536) 0x1021)
 

@@ -4,8 +4,7 @@ ghost use mathlib.Core.Path.{_≡_};
 ghost use Prim.Native.Nat.{_<_};
 ghost use Rattle.checksum.specs.Check.{entries, register, checkOf, messageCheck};
 
-// Entry i is i times 256, doubled eight times; a bit that reaches 65,536 is dropped and the rest
-// xored with hex 1021.
+// Entry i is i times 256, doubled eight times; for a seventeenth bit 1021 (hex) is xored in.
 const TABLE: [u16; 256] = [
     0x0000,
     0x1021,

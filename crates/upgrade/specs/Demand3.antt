@@ -93,7 +93,7 @@ module _ (b : Before) (calls : List Call) where
       let d : Device = worldAfter b calls .deviceEnd .device in
       d .fields .size * (d .fields .total - 1) + d .last ≡ length (b .content)
 
-  -- An earlier call brought that reply; after it, and before the gateway ended, an installer's end with 00 was answered 0.
+  -- Execute was answered 00 earlier, and then, with the gateway not yet Ended, the installer's end with 00 was taken (0).
   pub record InstalledBefore : Type 0 where
     pub earlier : List Call
     pub execution : Call
