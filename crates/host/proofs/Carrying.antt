@@ -9,7 +9,7 @@ use lib.ListN.{length, replicate}
 use borrow.Author.Tests.{eqb-true, eq-eqb, le-leb}
 use Rattle.basis.specs.Choice.{pick}
 use Rattle.basis.specs.Bytes.{over}
-use Rattle.basis.proofs.Choosing.{by-cases, pick-yes, and-left, and-both}
+use Rattle.basis.proofs.Choosing.{by-cases, and-left, and-both}
 use Rattle.basis.proofs.Lists.{length-part}
 use Rattle.message.specs.Version.{goodVersion}
 use Rattle.message.specs.Messages.{DeviceMessage, query, announce, fragment, downloadReply, execute, resultReply, deviceValid, GatewayMessage, queryReply, announceReply, fragmentRequest, downloadReport, executeReply, resultReport, Table, Reading, found, refused, toDevice, toGateway}
@@ -30,6 +30,7 @@ use Rattle.layout.specs.Identity.{DeviceTexts}
 use Rattle.layout.proofs.Identity.{identity}
 use Rattle.host.specs.Exports.{fact, textOf, Left, DeviceGiven, GatewayGiven, deviceNewOf, deviceReceiveOf, deviceInstallFinishedOf, deviceKept, gatewayKept, gatewayStartOf, gatewayReceiveOf}
 use Rattle.host.specs.Boundary.{Carried}
+use Rattle.host.proofs.Calls.{long-enough}
 use Rattle.host.proofs.Refusals.{DeviceOutcome, device-outcome, GatewayOutcome, gateway-outcome, done, declined}
 
 -- ---- version texts of 16 bytes stay so
@@ -174,7 +175,7 @@ started-text version size content checked e =
 
 -- where there is room, a call is not refused with 64
 with-room : {A : Type 0} (P : A → Type 0) (need : ℕ) (bytes : List ℕ) (a b : A) → need ≤ length bytes → P a → P (pick (leb need (length bytes)) a b)
-with-room P need bytes a b h p = subst P (sym (pick-yes (leb need (length bytes)) a b (le-leb need (length bytes) h))) p
+with-room P need bytes a b h p = subst P (long-enough need bytes a b h) p
 
 pub records-carried : Carried
 unfolding deviceNewOf deviceReceiveOf deviceInstallFinishedOf gatewayStartOf gatewayReceiveOf

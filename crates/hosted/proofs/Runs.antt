@@ -3,12 +3,9 @@ use Prim.Native.Nat.{ℕ, _+_, _*_, _/_, _≤_, _<_}
 use native.Mathlib.Omega.{arith}
 use mathlib.Core.Path.{_≡_, refl, sym, _∙_, ap, ap₂, subst}
 use mathlib.Core.List.{List, [], _∷_, _++_, map}
-use lib.Dec.{leb}
 use lib.ListN.{length, length-append, length-drop}
-use borrow.Author.Tests.{le-leb}
-use Rattle.basis.specs.Choice.{pick}
 use Rattle.basis.specs.Bytes.{over}
-use Rattle.basis.proofs.Choosing.{by-cases, pick-yes}
+use Rattle.basis.proofs.Choosing.{by-cases}
 use Rattle.codec.specs.Codec.{Sent}
 use Rattle.device_record.specs.Record.{newOf}
 use Rattle.device.specs.Rules as device
@@ -19,6 +16,7 @@ use Rattle.layout.specs.Layout.{kept, deviceAt, deviceLength, gatewayAt, gatewa
 use Rattle.host.specs.Exports.{fact, textOf, packed, Left, Asked, DeviceGiven, GatewayGiven, deviceKept, gatewayKept, deviceNewOf, deviceReceiveOf, deviceNextMessageOf, deviceInstallFinishedOf, gatewayStartOf, gatewayReceiveOf, gatewayNextMessageOf}
 use Rattle.host.specs.Exports as exports
 use Rattle.host.specs.Boundary.{lengthIn}
+use Rattle.host.proofs.Calls.{long-enough}
 use Rattle.host.proofs.Refusals.{device-number, device-ask-number, gateway-number, gateway-ask-number}
 use Rattle.host.proofs.Carrying.{records-carried}
 use Rattle.upgrade.specs.Fold.{after, Allowed}
@@ -44,14 +42,10 @@ module _ {S C W D : Type 0} (nextS : S → C → S) (nextW : W → D → W) (see
   allowed-shown may (c ∷ cs) s i a =
       (a .0, subst (λ (w : W). Allowed nextW may w (map of cs)) (one s c i) (allowed-shown may cs (nextS s c) (keeps s c i) (a .1)))
 
--- ---- an answer taken apart; a buffer with room
+-- ---- an answer taken apart; a buffer's room
 
 length-in : (n l : ℕ) → n < 256 → lengthIn (packed n l) ≡ l
 length-in n l h = omega arith
-
--- where there is room, a call is not refused with 64
-roomy : {A : Type 0} (need : ℕ) (bytes : List ℕ) (a b : A) → need ≤ length bytes → pick (leb need (length bytes)) a b ≡ a
-roomy need bytes a b h = pick-yes (leb need (length bytes)) a b (le-leb need (length bytes) h)
 
 -- a record buffer keeps its room
 kept-room : (n room : ℕ) (new bytes : List ℕ) → room ≤ length bytes → room ≤ length (kept n room new bytes)
@@ -76,7 +70,7 @@ module _ (h : DeviceHost) where
       let a : device.After = device.receiveOf (deviceAt (h .bytes)) (h .image) (h .map) reply (fact supported) (fact pcp) condition message in
       let e : deviceReceiveOf (h .bytes) (h .image) (h .map) reply supported pcp condition message
       ≡ record { answer = packed (a .number) (a .length); bytes = deviceKept (h .bytes) (a .number) (a .device); image = a .image; map = a .map; reply = a .reply } =
-      roomy deviceLength (h .bytes) _ _ r in
+      sym (long-enough deviceLength (h .bytes) _ _ r) in
       let d : deviceAt (deviceReceiveOf (h .bytes) (h .image) (h .map) reply supported pcp condition message .bytes) ≡ a .device =
       records-carried .device-receive (h .bytes) (h .image) (h .map) reply supported pcp condition message r in
       λ i. record { device = d i; image = e i .image; map = e i .map }
@@ -92,13 +86,13 @@ module _ (h : DeviceHost) where
       let a : device.After = device.receiveOf (deviceAt (h .bytes)) (h .image) (h .map) reply (fact supported) (fact pcp) condition message in
       let e : deviceReceiveOf (h .bytes) (h .image) (h .map) reply supported pcp condition message
       ≡ record { answer = packed (a .number) (a .length); bytes = deviceKept (h .bytes) (a .number) (a .device); image = a .image; map = a .map; reply = a .reply } =
-      roomy deviceLength (h .bytes) _ _ r in
+      sym (long-enough deviceLength (h .bytes) _ _ r) in
       ap (λ (g : DeviceGiven). aired (lengthIn (g .answer)) (g .reply)) e
       ∙ ap (λ (k : ℕ). aired k (a .reply))
       (length-in (a .number) (a .length) (device-number (deviceAt (h .bytes)) (h .image) (h .map) reply (fact supported) (fact pcp) condition message))
   device-says (asked reply) r =
       let s : Sent = device.nextMessageOf (deviceAt (h .bytes)) (h .image) (h .map) reply in
-      let e : deviceNextMessageOf (h .bytes) (h .image) (h .map) reply ≡ exports.asked s = roomy deviceLength (h .bytes) _ _ r in
+      let e : deviceNextMessageOf (h .bytes) (h .image) (h .map) reply ≡ exports.asked s = sym (long-enough deviceLength (h .bytes) _ _ r) in
       ap (λ (g : Asked). aired (lengthIn (g .answer)) (g .reply)) e
       ∙ ap (λ (k : ℕ). aired k (s .buffer))
       (length-in (s .number) (s .length) (device-ask-number (deviceAt (h .bytes)) (h .image) (h .map) reply))
@@ -126,13 +120,13 @@ module _ (content bytes : List ℕ) where
       let a : gateway.After = gateway.receiveOf (gatewayAt bytes) content reply (fact supported) (fact pcp) message in
       let e : gatewayReceiveOf bytes content reply supported pcp message
       ≡ record { answer = packed (a .number) (a .length); bytes = gatewayKept bytes (a .number) (a .gateway); reply = a .reply } =
-      roomy gatewayLength bytes _ _ r in
+      sym (long-enough gatewayLength bytes _ _ r) in
       ap (λ (g : GatewayGiven). aired (lengthIn (g .answer)) (g .reply)) e
       ∙ ap (λ (k : ℕ). aired k (a .reply))
       (length-in (a .number) (a .length) (gateway-number (gatewayAt bytes) content reply (fact supported) (fact pcp) message))
   gateway-says (GatewayHostCall.asked reply) r =
       let s : Sent = gateway.nextMessageOf (gatewayAt bytes) content reply in
-      let e : gatewayNextMessageOf bytes content reply ≡ exports.asked s = roomy gatewayLength bytes _ _ r in
+      let e : gatewayNextMessageOf bytes content reply ≡ exports.asked s = sym (long-enough gatewayLength bytes _ _ r) in
       ap (λ (g : Asked). aired (lengthIn (g .answer)) (g .reply)) e
       ∙ ap (λ (k : ℕ). aired k (s .buffer)) (length-in (s .number) (s .length) (gateway-ask-number (gatewayAt bytes) content reply))
 
@@ -169,11 +163,11 @@ hosted-runs content h f cs = shown (hostNext content) (next content) seen callOf
 module _ (b : HostedBefore) (r : HostedReady b) where
   made-number : newOf (textOf (b .running)) .number ≡ 0
   unfolding deviceNewOf
-  made-number = sym (ap (λ (l : Left). l .answer) (roomy deviceLength (b .deviceBuffer) _ _ (r .device-fits))) ∙ r .device-made
+  made-number = ap (λ (l : Left). l .answer) (long-enough deviceLength (b .deviceBuffer) _ _ (r .device-fits)) ∙ r .device-made
 
   started-number : startOf (textOf (b .version)) (b .size) (b .content) (fact (b .checked)) .number ≡ 0
   unfolding gatewayStartOf
-  started-number = sym (ap (λ (l : Left). l .answer) (roomy gatewayLength (b .gatewayBuffer) _ _ (r .gateway-fits))) ∙ r .gateway-started
+  started-number = ap (λ (l : Left). l .answer) (long-enough gatewayLength (b .gatewayBuffer) _ _ (r .gateway-fits)) ∙ r .gateway-started
 
   made-room : deviceLength ≤ length (deviceNewOf (b .deviceBuffer) (b .running) .bytes)
   unfolding deviceNewOf
