@@ -2,7 +2,7 @@
 use Prim.Native.Nat.{ℕ}
 use native.Mathlib.Omega.{arith}
 use mathlib.Core.Path.{_≡_, refl, sym, _∙_, ap, subst}
-use mathlib.Core.Bool.{true}
+use mathlib.Core.Bool.{Bool, true}
 use mathlib.Core.List.{List, [], _∷_}
 use lib.Dec.{eqb, leb}
 use lib.ListN.{length}
@@ -24,7 +24,8 @@ use Rattle.device.proofs.Sound.{sound-record, sound-room}
 use Rattle.gateway.specs.declared.Gateway.{Gateway}
 use Rattle.gateway.specs.Record as gateway
 use Rattle.gateway.specs.Rules as gateway-rules
-use Rattle.upgrade.specs.Calls.{aired, DeviceEnd, DeviceCall, given, asked, deviceAnswer, deviceNext, deviceSays, GatewayCall, gatewayNext, gatewaySays, World, atDevice, atGateway, next}
+use Rattle.upgrade.specs.Calls.{aired, DeviceCall, given, asked, GatewayCall, atDevice, atGateway, next}
+use Rattle.upgrade.specs.Records.{DeviceEnd, deviceAnswer, deviceNext, deviceSays, deviceNumber, gatewayNext, gatewaySays, World, records}
 use Rattle.upgrade.proofs.Count.{any, Fine, call-fine}
 use Rattle.upgrade.proofs.CleanSetting.{Setting, gatewayIn, gateway-good}
 use Rattle.upgrade.specs.Clean.{arriveAtDevice, arriveAtGateway, answeredByDevice, answeredByGateway, gatewayAsked, deviceAsked, askedNumber}
@@ -58,31 +59,31 @@ module _ (s : Setting) where
   gatewayTakes phase m reply = gateway-rules.handle (gatewayIn s phase) (s .content) reply (found m)
 
   abbrev pub asksDevice : World → World
-  asksDevice = deviceAsked (s .content) (s .deviceReply) (s .gatewayReply)
+  asksDevice = deviceAsked (records (s .content)) true (s .deviceReply) (s .gatewayReply)
 
   abbrev pub asksGateway : World → World
-  asksGateway = gatewayAsked (s .content) (s .deviceReply) (s .gatewayReply)
+  asksGateway = gatewayAsked (records (s .content)) true (s .deviceReply) (s .gatewayReply)
 
   -- the device has something to say, and asking it for that leads to these two ends
   pub record Spoke (w : World) (e : DeviceEnd) (g : Gateway) : Type 0 where
-    pub speaks : askedNumber (s .content) (s .deviceReply) (s .gatewayReply) w ≡ 9 → ⊥
+    pub speaks : askedNumber (records (s .content)) true (s .deviceReply) (s .gatewayReply) w ≡ 9 → ⊥
     pub leads : At (asksDevice w) e g
 
   -- ---- single calls
 
   module _ (w : World) where
     -- what the run gives an end here, and where a call leads
-    abbrev givenDevice : DeviceMessage → DeviceCall
+    abbrev givenDevice : DeviceMessage → DeviceCall Bool
     givenDevice m = given true true 0 (bytesOf toDevice m) (s .deviceReply w)
 
-    abbrev givenGateway : GatewayMessage → GatewayCall
+    abbrev givenGateway : GatewayMessage → GatewayCall Bool
     givenGateway m = GatewayCall.given true true (bytesOf toGateway m) (s .gatewayReply w)
 
-    abbrev afterDevice : DeviceCall → World
-    afterDevice c = next (s .content) w (atDevice c)
+    abbrev afterDevice : DeviceCall Bool → World
+    afterDevice c = next (records (s .content)) w (atDevice c)
 
-    abbrev afterGateway : GatewayCall → World
-    afterGateway c = next (s .content) w (atGateway c)
+    abbrev afterGateway : GatewayCall Bool → World
+    afterGateway c = next (records (s .content)) w (atGateway c)
 
     device-roomy : leb deviceRoom (length (s .deviceReply w)) ≡ true
     device-roomy = le-leb deviceRoom (length (s .deviceReply w)) (s .device-room w)
@@ -112,7 +113,8 @@ module _ (s : Setting) where
       device-says m q = rw (device-sends (found m) q) (aired-message toGateway m (s .deviceReply w))
 
       pub device-number : (r : Reading GatewayMessage) → device-rules.wanted (e .device) (e .map) ≡ r
-          → askedNumber (s .content) (s .deviceReply) (s .gatewayReply) w ≡ said toGateway r (s .deviceReply w) .number
+          → askedNumber (records (s .content)) true (s .deviceReply) (s .gatewayReply) w ≡ said toGateway r (s .deviceReply w) .number
+      unfolding deviceNumber
       device-number r q = ap (λ (sent : Sent). sent .number) (device-sends r q)
 
       device-asked : At (afterDevice (asked (s .deviceReply w))) e g

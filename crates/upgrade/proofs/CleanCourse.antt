@@ -2,11 +2,13 @@
 use Prim.Native.Nat.{ℕ, zero, suc, _+_, _-_}
 use native.Mathlib.Omega.{arith}
 use mathlib.Core.Path.{_≡_, refl, ap}
+use mathlib.Core.Bool.{true}
 use mathlib.Core.List.{List}
 use Rattle.device_record.specs.Record as device
 use Rattle.gateway.specs.declared.Gateway.{Gateway}
 use Rattle.gateway.specs.Record as gateway
-use Rattle.upgrade.specs.Calls.{DeviceEnd, asked, World}
+use Rattle.upgrade.specs.Calls.{Ends, Both}
+use Rattle.upgrade.specs.Records.{DeviceEnd, World, records}
 use Rattle.upgrade.specs.Clean.{UntilSilent, silent, spoken, ending}
 use Rattle.upgrade.proofs.CleanSetting.{Setting, total, gatewayIn, endIn, loadingAt, some, total-some}
 use Rattle.upgrade.proofs.CleanCalls.{At, Spoke, asksDevice, asksGateway}
@@ -14,16 +16,16 @@ use Rattle.upgrade.proofs.CleanLoad.{Front, front-none, front-more}
 use Rattle.upgrade.proofs.CleanSteps.{announced, fetched-one, fetched-last, quiet, reported, executed, finished, succeeded}
 
 -- asking until there is nothing to send ends in one way at most
-pub one-silence : (content : List ℕ) (deviceReply gatewayReply : World → List ℕ) {w v u : World} → UntilSilent content deviceReply gatewayReply w v
-    → UntilSilent content deviceReply gatewayReply w u → v ≡ u
-one-silence content deviceReply gatewayReply (silent p) (silent q) = refl
-one-silence content deviceReply gatewayReply (silent p) (spoken q n) = absurd (q p)
-one-silence content deviceReply gatewayReply (spoken p m) (silent q) = absurd (p q)
-one-silence content deviceReply gatewayReply (spoken p m) (spoken q n) = one-silence content deviceReply gatewayReply m n
+pub one-silence : (e : Ends) (affirmed : e .Fact) (deviceReply gatewayReply : Both e → List ℕ) {w v u : Both e}
+    → UntilSilent e affirmed deviceReply gatewayReply w v → UntilSilent e affirmed deviceReply gatewayReply w u → v ≡ u
+one-silence e affirmed deviceReply gatewayReply (silent p) (silent q) = refl
+one-silence e affirmed deviceReply gatewayReply (silent p) (spoken q n) = absurd (q p)
+one-silence e affirmed deviceReply gatewayReply (spoken p m) (silent q) = absurd (p q)
+one-silence e affirmed deviceReply gatewayReply (spoken p m) (spoken q n) = one-silence e affirmed deviceReply gatewayReply m n
 
 module _ (s : Setting) where
   abbrev pub Until : World → World → Type 0
-  Until = UntilSilent (s .content) (s .deviceReply) (s .gatewayReply)
+  Until = UntilSilent (records (s .content)) true (s .deviceReply) (s .gatewayReply)
 
   -- all is stored and acknowledged
   pub record Fetched (v : World) : Type 0 where
@@ -62,18 +64,18 @@ module _ (s : Setting) where
         fetches (total s - 1) 0 _ _ (asksGateway s w) (front-none (s .content) (s .size) (some s) (s .first .image) (s .first .map) (s .image-room) (s .map-room))
         (omega (arith, total-some s)) (announced s w here)
 
-    pub ends : (v : World) → Fetched v → ending (s .content) (s .deviceReply) (s .gatewayReply) v .gateway ≡ gatewayIn s gateway.ended
+    pub ends : (v : World) → Fetched v → ending (records (s .content)) true (s .deviceReply) (s .gatewayReply) v .gateway ≡ gatewayIn s gateway.ended
     ends v f =
         succeeded s _ _ _ _ _ (finished s _ _ _ _ _ (executed s _ _ _ _ v (f .here))) .leads .gateway-is
 
     -- whenever the device is silent after the announcement, the rest of the run ends the gateway with success
-    pub succeeds : (v : World) → Until (asksGateway s w) v → ending (s .content) (s .deviceReply) (s .gatewayReply) v .gateway ≡ gatewayIn s gateway.ended
+    pub succeeds : (v : World) → Until (asksGateway s w) v → ending (records (s .content)) true (s .deviceReply) (s .gatewayReply) v .gateway ≡ gatewayIn s gateway.ended
     succeeds v until =
         let (u, other, f) = fetched in
-        rw (one-silence (s .content) (s .deviceReply) (s .gatewayReply) until other) (ends u f)
+        rw (one-silence (records (s .content)) true (s .deviceReply) (s .gatewayReply) until other) (ends u f)
 
     -- and the gateway is in Run
     pub runs : (v : World) → Until (asksGateway s w) v → v .gateway .phase ≡ gateway.run
     runs v until =
         let (u, other, f) = fetched in
-        rw (one-silence (s .content) (s .deviceReply) (s .gatewayReply) until other) (ap (λ (g : Gateway). g .phase) (f .here .gateway-is))
+        rw (one-silence (records (s .content)) true (s .deviceReply) (s .gatewayReply) until other) (ap (λ (g : Gateway). g .phase) (f .here .gateway-is))

@@ -19,7 +19,8 @@ use Rattle.gateway.specs.Record as gateway
 use Rattle.gateway.proofs.Views.{Turns, stays, offers, serves, runs, fails, succeeds, received}
 use Rattle.gateway.proofs.Package.{Begun, starts}
 use Rattle.upgrade.specs.Fold.{after}
-use Rattle.upgrade.specs.Calls.{GatewayCall, gatewayNext, World}
+use Rattle.upgrade.specs.Calls.{GatewayCall, Ends}
+use Rattle.upgrade.specs.Records.{gatewayNext, World, records}
 use Rattle.upgrade.specs.Demand3.{Before, deviceThen, gatewayThen, start}
 use Rattle.upgrade.specs.Clean.{CleanStart, Reached, CleanRun}
 use Rattle.upgrade.proofs.Count.{made-fine, run-fine}
@@ -43,12 +44,12 @@ module _ (content : List ℕ) (g : Gateway) where
   unended-turn h k heard (fails n z e) u = rw e (λ not. absurd (not refl))
   unended-turn h k heard (succeeds p m e) u = rw e (λ not. absurd (not refl))
 
-  unended-next : (h : Gateway) (c : GatewayCall) → Unended g h → Unended g (gatewayNext content h c)
+  unended-next : (h : Gateway) (c : GatewayCall Bool) → Unended g h → Unended g (gatewayNext content h c)
   unfolding gatewayNext
   unended-next h (GatewayCall.given supported pcp message reply) u = unended-turn h _ _ (received h content reply supported pcp message .turns) u
   unended-next h (GatewayCall.asked reply) u = u
 
-  unended-after : (calls : List GatewayCall) (h : Gateway) → Unended g h → Unended g (after (gatewayNext content) h calls)
+  unended-after : (calls : List (GatewayCall Bool)) (h : Gateway) → Unended g h → Unended g (after (gatewayNext content) h calls)
   unended-after [] h u = u
   unended-after (c ∷ cs) h u = unended-after cs (gatewayNext content h c) (unended-next h c u)
 
@@ -110,15 +111,17 @@ module _ (b : Before) (deviceReply gatewayReply : World → List ℕ) (c : Clean
 pub clean-run : CleanRun
 clean-run b deviceReply gatewayReply c =
     let s : Setting = setting b deviceReply gatewayReply c in
+    let e : Ends = records (b .content) in
     let (v, until, _) = of.fetched s (start b) (at-start b deviceReply gatewayReply c) in (
       (v, until),
       λ u silence.
-          let reached : Reached b u = until-silent b deviceReply gatewayReply silence (gateway-asked b deviceReply gatewayReply (start b) (reached-start b)) in
-          let e : _ = of.succeeds s (start b) (at-start b deviceReply gatewayReply c) u silence in (
-            reached,
+          let there : Reached e (start b) u =
+          until-silent e (start b) true deviceReply gatewayReply silence
+          (gateway-asked e (start b) true deviceReply gatewayReply (start b) (reached-start e (start b))) in
+          let done : _ = of.succeeds s (start b) (at-start b deviceReply gatewayReply c) u silence in (
+            there,
             of.runs s (start b) (at-start b deviceReply gatewayReply c) u silence,
-            at-end b deviceReply gatewayReply u reached,
-            ap (λ (g : Gateway). g .phase) e,
-            ap (λ (g : Gateway). g .ending) e,
+            at-end e (start b) true deviceReply gatewayReply u there,
+            (ap (λ (g : Gateway). g .phase) done, ap (λ (g : Gateway). g .ending) done),
           ),
     )

@@ -18,7 +18,7 @@ use Rattle.device.specs.Rules as device-rules
 use Rattle.gateway.specs.declared.Gateway.{Gateway}
 use Rattle.gateway.specs.Record as gateway
 use Rattle.gateway.proofs.Package.{total-some as some-total, total-most}
-use Rattle.upgrade.specs.Calls.{DeviceEnd, World}
+use Rattle.upgrade.specs.Records.{DeviceEnd, World}
 use Rattle.upgrade.proofs.Count.{Fine}
 
 -- what a clean run is given, and what is known of it

@@ -23,7 +23,8 @@ use Rattle.device.proofs.Sound.{sound-record}
 use Rattle.gateway.specs.Record as gateway
 use Rattle.gateway.specs.Rules as gateway-rules
 use Rattle.gateway.proofs.Package.{stretch-fits}
-use Rattle.upgrade.specs.Calls.{DeviceEnd, installed, deviceNext, World, atDevice, next}
+use Rattle.upgrade.specs.Calls.{installed, atDevice, next}
+use Rattle.upgrade.specs.Records.{DeviceEnd, deviceNext, World, records}
 use Rattle.upgrade.specs.Clean.{askedNumber}
 use Rattle.upgrade.proofs.Count.{any, call-fine}
 use Rattle.upgrade.proofs.CleanSetting.{Setting, total, fields, gatewayIn, endIn, loadingAt, updatedIn, some, size-most, total-fits, total-ok}
@@ -123,7 +124,7 @@ module _ (s : Setting) where
 
   module _ (stored last : ℕ) (image map : List ℕ) (w : World) where
     pub quiet : At w (endIn s device.acked stored last image map) (gatewayIn s gateway.run)
-        → askedNumber (s .content) (s .deviceReply) (s .gatewayReply) w ≡ 9
+        → askedNumber (records (s .content)) true (s .deviceReply) (s .gatewayReply) w ≡ 9
     unfolding device-rules.wanted said pick
     quiet here = device-number s w here (refused 9) refl
 
@@ -141,7 +142,7 @@ module _ (s : Setting) where
         (aired-message toGateway (executeReply 0x00)) refl (λ _. refl)
 
     pub finished : At w (endIn s device.installing stored last image map) (gatewayIn s gateway.run)
-        → At (next (s .content) w (atDevice (installed 0x00))) (updatedIn s device.reporting stored last image map) (gatewayIn s gateway.run)
+        → At (next (records (s .content)) w (atDevice (installed 0x00))) (updatedIn s device.reporting stored last image map) (gatewayIn s gateway.run)
     unfolding next deviceNext device-rules.installFinishedOf refusal installCode oneOf pick
     finished here =
         let e : DeviceEnd = endIn s device.installing stored last image map in

@@ -2,6 +2,7 @@
 -- bits among the first total, and no call is refused with 29; where the image too is one, none is refused with 14. Assumes nothing.
 use Prim.Native.Nat.{ℕ}
 use native.Mathlib.Omega.{arith}
+use mathlib.Core.Bool.{Bool}
 use mathlib.Core.Path.{_≡_}
 use mathlib.Core.List.{List, [], _∷_}
 use Rattle.basis.proofs.Choosing.{by-cases}
@@ -14,7 +15,8 @@ use Rattle.device.proofs.Standing.{standing, standing-does}
 use Rattle.device.proofs.Numbers.{receive-neither, ask-neither, install-neither}
 use Rattle.upgrade.specs.Fold.{after}
 use Rattle.upgrade.specs.Counted.{Counted, Count, Roomy, Room, lentNext}
-use Rattle.upgrade.specs.Calls.{DeviceEnd, DeviceCall, given, asked, installed, deviceNext}
+use Rattle.upgrade.specs.Calls.{DeviceCall, given, asked, installed}
+use Rattle.upgrade.specs.Records.{DeviceEnd, deviceNext, deviceNumber, deviceRecords}
 use Rattle.upgrade.proofs.Lent.{Kept, kept-by, kept-record, kept-given, kept-installed, given-unmet, asked-unmet, installed-unmet}
 
 -- of the stored bytes nothing in particular is known
@@ -30,7 +32,7 @@ made-fine version image map =
     by-cases (λ (m : Made). m .number ≡ 0 → Fine (record { device = m .device; image = image; map = map }))
     (λ v _. sound-fresh (standing any) version image map v) (λ _ z. absurd (omega arith))
 
-pub call-fine : (e : DeviceEnd) (c : DeviceCall) → Fine e → Fine (deviceNext e c)
+pub call-fine : (e : DeviceEnd) (c : DeviceCall Bool) → Fine e → Fine (deviceNext e c)
 unfolding deviceNext any
 call-fine e (given supported pcp condition message reply) s =
     standing-does any (e .device) (e .image) (e .map) _ _ (receive-does (e .device) (e .image) (e .map) reply supported pcp condition message)
@@ -39,22 +41,24 @@ call-fine e (asked reply) s = s
 call-fine e (installed code) s =
     standing-does any (e .device) (e .image) (e .map) _ _ (install-does (e .device) (e .image) (e .map) code) (λ _ _ _ _ _. tt) s
 
-pub run-fine : (calls : List DeviceCall) (e : DeviceEnd) → Fine e → Fine (after deviceNext e calls)
+pub run-fine : (calls : List (DeviceCall Bool)) (e : DeviceEnd) → Fine e → Fine (after deviceNext e calls)
 run-fine [] e s = s
 run-fine (c ∷ cs) e s = run-fine cs (deviceNext e c) (call-fine e c s)
 
 -- ---- one map and one image
 
-roomy : (e : DeviceEnd) → Fine e → Roomy e
-roomy e s =
-    let rule : Rule = standing any in
-    record {
-      room-holds = sound-room rule (e .device) (e .image) (e .map) s;
-      given-not-14 = λ supported pcp condition message reply.
-          receive-neither rule (e .device) (e .image) (e .map) s reply supported pcp condition message .1;
-      asked-not-14 = λ reply. ask-neither rule (e .device) (e .image) (e .map) s reply .1;
-      installed-not-14 = λ code. install-neither rule (e .device) (e .image) (e .map) s code .1;
-    }
+roomy : (e : DeviceEnd) → Fine e → Roomy deviceRecords e
+unfolding deviceNumber
+roomy e s = record { room-holds = sound-room rule (e .device) (e .image) (e .map) s; not-14 = not-14 }
+  where
+    rule : Rule
+    rule = standing any
+
+    not-14 : (c : DeviceCall Bool) → deviceNumber e c ≡ 14 → ⊥
+    not-14 (given supported pcp condition message reply) =
+        receive-neither rule (e .device) (e .image) (e .map) s reply supported pcp condition message .1
+    not-14 (asked reply) = ask-neither rule (e .device) (e .image) (e .map) s reply .1
+    not-14 (installed code) = install-neither rule (e .device) (e .image) (e .map) s code .1
 
 pub room : Room
 room version image map made calls =
@@ -66,29 +70,34 @@ room version image map made calls =
 abbrev KeptIn : DeviceEnd → Type 0
 KeptIn e = Kept (e .device) (e .map)
 
-call-kept : (e : DeviceEnd) (c : List ℕ × DeviceCall) → KeptIn e → KeptIn (lentNext e c)
+call-kept : (e : DeviceEnd) (c : List ℕ × DeviceCall Bool) → KeptIn e → KeptIn (lentNext deviceRecords e c)
 unfolding deviceNext
 call-kept e (image, given supported pcp condition message reply) k =
     kept-given (e .device) image (e .map) reply supported pcp condition message k
 call-kept e (image, asked reply) k = k
 call-kept e (image, installed code) k = kept-installed (e .device) (e .map) code k
 
-run-kept : (calls : List (List ℕ × DeviceCall)) (e : DeviceEnd) → KeptIn e → KeptIn (after lentNext e calls)
+run-kept : (calls : List (List ℕ × DeviceCall Bool)) (e : DeviceEnd) → KeptIn e → KeptIn (after (lentNext deviceRecords) e calls)
 run-kept [] e k = k
-run-kept (c ∷ cs) e k = run-kept cs (lentNext e c) (call-kept e c k)
+run-kept (c ∷ cs) e k = run-kept cs (lentNext deviceRecords e c) (call-kept e c k)
 
-counted : (e : DeviceEnd) → KeptIn e → Counted e
+counted : (e : DeviceEnd) → KeptIn e → Counted deviceRecords e
+unfolding deviceNumber
 counted e k =
     record {
       count = λ some known. k .sound .download (λ z. omega arith) .counts;
       record-holds = kept-record (e .device) (e .map) k;
-      given-not-29 = λ image supported pcp condition message reply.
-          given-unmet (e .device) image (e .map) reply supported pcp condition message (kept-record (e .device) (e .map) k);
-      asked-not-29 = λ image reply. asked-unmet (e .device) image (e .map) reply k;
-      installed-not-29 = λ code. installed-unmet (e .device) (e .map) code k;
+      not-29 = not-29;
     }
+  where
+    not-29 : (image : List ℕ) (c : DeviceCall Bool) → deviceNumber (record { device = e .device; image = image; map = e .map }) c ≡ 29 → ⊥
+    not-29 image (given supported pcp condition message reply) =
+        given-unmet (e .device) image (e .map) reply supported pcp condition message (kept-record (e .device) (e .map) k)
+    not-29 image (asked reply) = asked-unmet (e .device) image (e .map) reply k
+    not-29 image (installed code) = installed-unmet (e .device) (e .map) code k
 
 pub count : Count
 count version map made calls =
     let e : DeviceEnd = record { device = newOf version .device; image = []; map = map } in
-    counted (after lentNext e calls) (run-kept calls e (kept-by (standing any) (e .device) [] map (made-fine version [] map made)))
+    counted (after (lentNext deviceRecords) e calls)
+    (run-kept calls e (kept-by (standing any) (e .device) [] map (made-fine version [] map made)))

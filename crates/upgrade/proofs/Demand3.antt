@@ -3,7 +3,7 @@ use Prim.Native.Nat.{ℕ, _+_, _*_, _-_, _≤_, _<_}
 use native.Mathlib.Nat.{mul-comm}
 use native.Mathlib.Omega.{arith}
 use mathlib.Core.Path.{_≡_, refl, sym, _∙_, ap, ap₂, subst}
-use mathlib.Core.Bool.{true}
+use mathlib.Core.Bool.{Bool, true}
 use mathlib.Core.List.{List, [], _∷_, _++_}
 use mathlib.Core.Logic.{_⊎_, inl, inr}
 use lib.Dec.{leb}
@@ -27,8 +27,10 @@ use Rattle.message.specs.Limits.{sizeOk}
 use Rattle.device_record.proofs.Ranges.{size-range}
 use Rattle.gateway.proofs.Package.{starts, total-covers, below-total, total-some, fragment-is}
 use Rattle.upgrade.specs.Fold.{after, Allowed}
-use Rattle.upgrade.specs.Calls.{DeviceEnd, DeviceCall, given, asked, installed, GatewayCall, gatewayNext, World, Call, atDevice, atGateway, next, May}
-use Rattle.upgrade.specs.Demand3.{Before, made, deviceThen, gatewayThen, heldThen, Ready, start, worldAfter, Executed, ExecutedImage, InstalledBefore, Demand3, InstallLength}
+use Rattle.upgrade.specs.Calls.{DeviceCall, given, asked, installed, GatewayCall, Call, atDevice, atGateway, next, May}
+use Rattle.upgrade.specs.Records.{DeviceEnd, gatewayNext, World, records}
+use Rattle.upgrade.specs.Claims.{Executed, reached, ExecutedImage, InstalledBefore}
+use Rattle.upgrade.specs.Demand3.{Before, made, deviceThen, gatewayThen, heldThen, Ready, start, Demand3, Upgrade, InstallLength}
 use Rattle.upgrade.proofs.Folds.{after-append, allowed-front, allowed-rest, always}
 use Rattle.upgrade.proofs.Air.{air-none}
 use Rattle.upgrade.proofs.Run.{Plan, Stretch, Run, untaken, taken, run-later}
@@ -37,6 +39,7 @@ use Rattle.upgrade.proofs.GatewaySteps.{heardIn, gateway-turns, offer-k
 use Rattle.upgrade.proofs.DeviceSteps.{not-success}
 use Rattle.upgrade.proofs.Life.{Among, Lived, lived, lived-fresh}
 use Rattle.upgrade.proofs.History.{ExecutedIn, executed-later, executed-now, installed-later, installed-now}
+use Rattle.upgrade.proofs.Joined.{joined}
 use Rattle.upgrade.proofs.Worlds.{device-hears, gateway-keeps, device-keeps}
 
 -- ---- Execute answered 00: the phases in which it is, and that the image stays
@@ -98,11 +101,16 @@ record Whole (content : List ℕ) (e : DeviceEnd) : Type 0 where
 
 -- ---- what the gateway offers
 
-offer-then : (content : List ℕ) (cs : List GatewayCall) (g : Gateway)
+offer-then : (content : List ℕ) (cs : List (GatewayCall Bool)) (g : Gateway)
     → gateway.offered (after (gatewayNext content) g cs) ≡ gateway.offered g
 offer-then content [] g = refl
 offer-then content (c ∷ cs) g =
     offer-then content cs (gatewayNext content g c) ∙ offer-kept content g (gatewayNext content g c) (heardIn c) (gateway-turns content g c)
+
+-- ---- the run
+
+abbrev worldAfter : Before → List (Call Bool) → World
+worldAfter b calls = reached (records (b .content)) (start b) calls
 
 module _ (b : Before) (ready : Ready b) where
   offer-is : gateway.offered (gatewayThen b)
@@ -138,9 +146,9 @@ module _ (b : Before) (ready : Ready b) where
 
   -- ---- the invariant, along the run
 
-  record Inv (calls : List Call) (w : World) : Type 0 where
+  record Inv (calls : List (Call Bool)) (w : World) : Type 0 where
     offer : gateway.offered (w .gateway) ≡ gateway.offered (gatewayThen b)
-    run : Run plan w (ExecutedIn b calls) (InstalledBefore b calls)
+    run : Run plan w (ExecutedIn (records (b .content)) (start b) calls) (InstalledBefore (records (b .content)) (start b) calls)
 
   at-start : Inv [] (start b)
   at-start =
@@ -160,28 +168,28 @@ module _ (b : Before) (ready : Ready b) where
         };
       }
 
-  keeps : (calls : List Call) (c : Call) → Inv calls (worldAfter b calls) → May (worldAfter b calls) c
-      → Inv (calls ++ (c ∷ [])) (next (b .content) (worldAfter b calls) c)
+  keeps : (calls : List (Call Bool)) (c : Call Bool) → Inv calls (worldAfter b calls) → May (worldAfter b calls) c
+      → Inv (calls ++ (c ∷ [])) (next (records (b .content)) (worldAfter b calls) c)
   unfolding next
   keeps calls (atDevice c) i m =
       record {
         offer = i .offer;
-        run = device-keeps plan (worldAfter b calls) c (executed-later b calls (atDevice c)) (installed-later b calls (atDevice c))
-            (executed-now b calls (atDevice c)) (λ x h n. installed-now b calls (atDevice c) h x n) m (i .run);
+        run = device-keeps plan (worldAfter b calls) c (executed-later (records (b .content)) (start b) calls (atDevice c)) (installed-later (records (b .content)) (start b) calls (atDevice c))
+            (executed-now (records (b .content)) (start b) calls (atDevice c)) (λ x h n. installed-now (records (b .content)) (start b) calls (atDevice c) h x n) m (i .run);
       }
   keeps calls (atGateway c) i m =
       let g : Gateway = worldAfter b calls .gateway in
       record {
         offer = offer-kept (b .content) g _ (heardIn c) (gateway-turns (b .content) g c) ∙ i .offer;
-        run = run-later plan _ (executed-later b calls (atGateway c)) (installed-later b calls (atGateway c))
+        run = run-later plan _ (executed-later (records (b .content)) (start b) calls (atGateway c)) (installed-later (records (b .content)) (start b) calls (atGateway c))
             (gateway-keeps plan (worldAfter b calls) c (i .offer) m (i .run));
       }
 
-  abbrev Allows : List Call → Type 0
-  Allows calls = Allowed (next (b .content)) May (start b) calls
+  abbrev Allows : List (Call Bool) → Type 0
+  Allows calls = Allowed (next (records (b .content))) May (start b) calls
 
-  inv : (calls : List Call) → Allows calls → Inv calls (worldAfter b calls)
-  inv = always (next (b .content)) May Inv (start b) keeps at-start
+  inv : (calls : List (Call Bool)) → Allows calls → Inv calls (worldAfter b calls)
+  inv = always (next (records (b .content))) May Inv (start b) keeps at-start
 
   -- ---- what it tells
 
@@ -196,7 +204,7 @@ module _ (b : Before) (ready : Ready b) where
     success (taken t) q z = t .success q z
 
     -- a device that is full, and is given Execute, has the package, and says how long it is
-    whole-there : (c : DeviceCall) (condition : ℕ) → May w (atDevice c) → inputOf c ≡ hears condition (found execute) → Full (w .deviceEnd .device)
+    whole-there : (c : DeviceCall Bool) (condition : ℕ) → May w (atDevice c) → inputOf c ≡ hears condition (found execute) → Full (w .deviceEnd .device)
         → Run plan w E I → Whole (b .content) (w .deviceEnd)
     whole-there c condition m k full (untaken u) = absurd (device-hears w c (u .said) m condition execute k)
     whole-there c condition m k full (taken t) =
@@ -232,10 +240,10 @@ module _ (b : Before) (ready : Ready b) where
         high : n ≤ gateway.totalOf n size * size
         high = omega (arith, total-covers n size some, mul-comm size (gateway.totalOf n size))
 
-    answered-whole : (c : Call) → Run plan w E I → May w c → Executed w c → Whole (b .content) (next (b .content) w c .deviceEnd)
+    answered-whole : (c : Call Bool) → Run plan w E I → May w c → Executed (records (b .content)) w c → Whole (b .content) (next (records (b .content)) w c .deviceEnd)
     unfolding next
     answered-whole (atDevice (given supported pcp condition message reply)) r m x =
-        let c : DeviceCall = given supported pcp condition message reply in
+        let c : DeviceCall Bool = given supported pcp condition message reply in
         let k : inputOf c ≡ hears condition (found execute) = ap (hears condition) (x .0) in
         let o : Out = outIn (w .deviceEnd) c in
         let does : DoesAt (w .deviceEnd) (inputOf c) o = call-does (w .deviceEnd) c in
@@ -252,26 +260,31 @@ module _ (b : Before) (ready : Ready b) where
     answered-whole (atDevice (installed code)) r m x = absurd x
     answered-whole (atGateway c) r m x = absurd x
 
-  executed-whole : (calls : List Call) → Allows calls → (earlier : List Call) (last : Call) → calls ≡ earlier ++ (last ∷ [])
-      → Executed (worldAfter b earlier) last → Whole (b .content) (worldAfter b calls .deviceEnd)
+  executed-whole : (calls : List (Call Bool)) → Allows calls → (earlier : List (Call Bool)) (last : Call Bool) → calls ≡ earlier ++ (last ∷ [])
+      → Executed (records (b .content)) (worldAfter b earlier) last → Whole (b .content) (worldAfter b calls .deviceEnd)
   executed-whole calls a earlier last split x =
       let a′ : Allows (earlier ++ (last ∷ [])) = subst Allows split a in
-      rw (split, after-append (next (b .content)) (start b) earlier (last ∷ []))
+      rw (split, after-append (next (records (b .content))) (start b) earlier (last ∷ []))
       (answered-whole (worldAfter b earlier) last
-      (inv earlier (allowed-front (next (b .content)) May (start b) earlier (last ∷ []) a′) .run)
-      (allowed-rest (next (b .content)) May (start b) earlier (last ∷ []) a′ .0) x)
+      (inv earlier (allowed-front (next (records (b .content))) May (start b) earlier (last ∷ []) a′) .run)
+      (allowed-rest (next (records (b .content))) May (start b) earlier (last ∷ []) a′ .0) x)
 
   -- ---- the first half
 
-  executed-image : (calls : List Call) → Allows calls → ExecutedImage b calls
+  executed-image : (calls : List (Call Bool)) → Allows calls → ExecutedImage (records (b .content)) (start b) (b .content) calls
   executed-image calls a earlier last split x = (
     executed-whole calls a earlier last split x .image,
-    λ some rest e. past (worldAfter b some) (inv some (allowed-front (next (b .content)) May (start b) some rest (subst Allows e a)) .run),
+    λ some rest e. past (worldAfter b some) (inv some (allowed-front (next (records (b .content))) May (start b) some rest (subst Allows e a)) .run),
   )
 
 pub demand-3 : Demand3
 demand-3 b ready calls a =
-    (executed-image b ready calls a, λ q z. success b ready (worldAfter b calls) (inv b ready calls a .run) q z)
+    (executed-image b ready calls a, λ s. success b ready (worldAfter b calls) (inv b ready calls a .run) (s .0) (s .1))
 
 pub install-length : InstallLength
 install-length b ready calls a earlier last split x = executed-whole b ready calls a earlier last split x .long
+
+-- ---- the halves joined
+
+pub upgrade : Upgrade
+upgrade b ready = joined (records (b .content)) (start b) (b .content) (demand-3 b ready)

@@ -2,7 +2,7 @@
 use Prim.Native.Nat.{ℕ, _≤_, _<_}
 use native.Mathlib.Omega.{arith}
 use mathlib.Core.Path.{_≡_, refl}
-use mathlib.Core.Bool.{true, false}
+use mathlib.Core.Bool.{Bool, true, false}
 use mathlib.Core.List.{List, []}
 use mathlib.Core.Logic.{_⊎_, inl, inr}
 use lib.Dec.{leb}
@@ -18,7 +18,8 @@ use Rattle.bitmap.specs.Bitmap.{cleared}
 use Rattle.device.specs.Rules.{announceResult, completion}
 use Rattle.device.proofs.Views
 use Rattle.device.proofs.Views.{Input, hears, asks, installs, Out, out, spoken, storedOut, receiveOut, askOut, installOut, Begins, Resumes, Stores, Still, Moves, Does, receive-does, ask-does, install-does}
-use Rattle.upgrade.specs.Calls.{DeviceEnd, DeviceCall, given, asked, installed, aired, deviceNext, deviceSays}
+use Rattle.upgrade.specs.Calls.{DeviceCall, given, asked, installed, aired}
+use Rattle.upgrade.specs.Records.{DeviceEnd, deviceNext, deviceSays}
 
 -- the end that a call leaves
 abbrev pub endOf : Out → DeviceEnd
@@ -61,29 +62,29 @@ outcomeAt e code running = out 0 (withOutcome code running (e .device)) (e .imag
 
 -- ---- a call
 
-abbrev pub inputOf : DeviceCall → Input
+abbrev pub inputOf : DeviceCall Bool → Input
 inputOf (given supported pcp condition message reply) = hears condition (readOf toDevice supported pcp message)
 inputOf (asked reply) = asks
 inputOf (installed code) = installs code
 
-abbrev pub outIn : DeviceEnd → DeviceCall → Out
+abbrev pub outIn : DeviceEnd → DeviceCall Bool → Out
 outIn e (given supported pcp condition message reply) = receiveOut (e .device) (e .image) (e .map) reply supported pcp condition message
 outIn e (asked reply) = askOut (e .device) (e .image) (e .map) reply
 outIn e (installed code) = installOut (e .device) (e .image) (e .map) code
 
-pub call-does : (e : DeviceEnd) (c : DeviceCall) → DoesAt e (inputOf c) (outIn e c)
+pub call-does : (e : DeviceEnd) (c : DeviceCall Bool) → DoesAt e (inputOf c) (outIn e c)
 call-does e (given supported pcp condition message reply) =
     receive-does (e .device) (e .image) (e .map) reply supported pcp condition message
 call-does e (asked reply) = ask-does (e .device) (e .image) (e .map) reply
 call-does e (installed code) = install-does (e .device) (e .image) (e .map) code
 
-pub next-is : (e : DeviceEnd) (c : DeviceCall) → deviceNext e c ≡ endOf (outIn e c)
+pub next-is : (e : DeviceEnd) (c : DeviceCall Bool) → deviceNext e c ≡ endOf (outIn e c)
 unfolding deviceNext
 next-is e (given supported pcp condition message reply) = refl
 next-is e (asked reply) = refl
 next-is e (installed code) = refl
 
-pub says-is : (e : DeviceEnd) (c : DeviceCall) → deviceSays e c ≡ outIn e c .says
+pub says-is : (e : DeviceEnd) (c : DeviceCall Bool) → deviceSays e c ≡ outIn e c .says
 unfolding deviceSays aired
 says-is e (given supported pcp condition message reply) = refl
 says-is e (asked reply) = refl

@@ -1,6 +1,7 @@
 -- The gateway's calls keep the invariant of the runs: one clause for each outcome of its view. Assumes nothing.
 use Prim.Native.Nat.{ℕ}
 use native.Mathlib.Omega.{arith}
+use mathlib.Core.Bool.{Bool}
 use mathlib.Core.Path.{_≡_, refl, sym, _∙_, ap, subst}
 use mathlib.Core.List.{List, _++_}
 use mathlib.Core.Logic.{_⊎_, inl, inr}
@@ -10,19 +11,20 @@ use Rattle.codec.specs.Codec.{readOf}
 use Rattle.gateway.specs.declared.Gateway.{Gateway}
 use Rattle.gateway.specs.Record as gateway
 use Rattle.gateway.proofs.Views.{Served, Sayable, Says, nothing, says, Turns, stays, offers, serves, runs, fails, succeeds, received, next-said}
-use Rattle.upgrade.specs.Calls.{GatewayCall, aired, gatewayNext, gatewaySays, World, atGateway, next}
+use Rattle.upgrade.specs.Calls.{GatewayCall, aired, atGateway, next}
+use Rattle.upgrade.specs.Records.{gatewayNext, gatewaySays, World, records}
 use Rattle.upgrade.proofs.Air.{Air, Heard, air-map, air-more, air-silent, air-said}
 use Rattle.upgrade.proofs.Run.{Plan, NotEnded, Offering, RunsTarget, GatewaySaid, DeviceSaid, more-said, Untaken, Taken}
 
 -- ---- a call by its view
 
 -- what the call has the gateway hear
-abbrev pub heardIn : GatewayCall → Reading GatewayMessage
+abbrev pub heardIn : GatewayCall Bool → Reading GatewayMessage
 heardIn (GatewayCall.given supported pcp message reply) = readOf toGateway supported pcp message
 heardIn (GatewayCall.asked reply) = refused 0
 
 module _ (content : List ℕ) (g : Gateway) where
-  pub gateway-turns : (c : GatewayCall) → Turns g content (heardIn c) (gatewayNext content g c)
+  pub gateway-turns : (c : GatewayCall Bool) → Turns g content (heardIn c) (gatewayNext content g c)
   unfolding gatewayNext
   gateway-turns (GatewayCall.given supported pcp message reply) = received g content reply supported pcp message .turns
   gateway-turns (GatewayCall.asked reply) = stays refl
@@ -31,7 +33,7 @@ module _ (content : List ℕ) (g : Gateway) where
   on-air reply n buffer (nothing e) = air-silent toDevice n buffer e
   on-air reply n buffer (says m e b s) = air-said toDevice m n buffer reply e b s
 
-  pub gateway-said : (c : GatewayCall) → Air toDevice (Sayable g content) (gatewaySays content g c)
+  pub gateway-said : (c : GatewayCall Bool) → Air toDevice (Sayable g content) (gatewaySays content g c)
   unfolding gatewaySays
   gateway-said (GatewayCall.given supported pcp message reply) = on-air reply _ _ (received g content reply supported pcp message .said)
   gateway-said (GatewayCall.asked reply) = on-air reply _ _ (next-said g content reply)
@@ -102,7 +104,7 @@ module _ (p : Plan) (g h : Gateway) (heard : Reading GatewayMessage) where
 
 -- ---- a call
 
-module _ (p : Plan) (w : World) (c : GatewayCall) (o : gateway.offered (w .gateway) ≡ p .offer) where
+module _ (p : Plan) (w : World) (c : GatewayCall Bool) (o : gateway.offered (w .gateway) ≡ p .offer) where
   abbrev turned : Gateway
   turned = gatewayNext (p .content) (w .gateway) c
 
@@ -116,7 +118,7 @@ module _ (p : Plan) (w : World) (c : GatewayCall) (o : gateway.offered (w .gatew
       (air-map toDevice (said-so p (w .gateway) turned (heardIn c) o k) more (gateway-said (p .content) (w .gateway) c)) said
 
   pub untaken-turn : Untaken p w → Heard toGateway (DeviceSaid p ⊥ (RunsTarget p (w .deviceEnd .device))) (heardIn c)
-      → Untaken p (next (p .content) w (atGateway c))
+      → Untaken p (next (records (p .content)) w (atGateway c))
   unfolding next
   untaken-turn u k =
       record {
@@ -129,7 +131,7 @@ module _ (p : Plan) (w : World) (c : GatewayCall) (o : gateway.offered (w .gatew
       }
 
   pub taken-turn : {E I : Type 0} → Taken p w E I → Heard toGateway (DeviceSaid p (Unit {0}) (NotEnded (w .gateway) → I)) (heardIn c)
-      → Taken p (next (p .content) w (atGateway c)) E I
+      → Taken p (next (records (p .content)) w (atGateway c)) E I
   unfolding next
   taken-turn {E} {I} t k =
       let x : (NotEnded turned → NotEnded (w .gateway)) × (turned .phase ≡ gateway.ended → turned .ending ≡ 0 → I) =

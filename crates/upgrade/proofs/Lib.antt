@@ -8,6 +8,7 @@ pub mod DeviceCalls
 pub mod DeviceSteps
 pub mod Life
 pub mod History
+pub mod Joined
 pub mod Worlds
 pub mod Demand3
 pub mod CleanSetting

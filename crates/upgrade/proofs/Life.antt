@@ -3,7 +3,7 @@
 use Prim.Native.Nat.{ℕ}
 use native.Mathlib.Omega.{arith}
 use mathlib.Core.Path.{_≡_, refl, sym, _∙_, subst}
-use mathlib.Core.Bool.{false, _&&_, not}
+use mathlib.Core.Bool.{Bool, false, _&&_, not}
 use mathlib.Core.List.{List, [], _∷_, List·Memᴰ, List·Memᴰ·head, List·Memᴰ·tail}
 use mathlib.Core.Logic.{_⊎_, inl, inr}
 use lib.Dec.{eqb}
@@ -22,7 +22,8 @@ use Rattle.device.proofs.Views.{Input, hears, asks, installs, Out}
 use Rattle.device.proofs.Sound.{sound-fresh, sound-begun, sound-stored, sound-moved, sound-executed, sound-outcome}
 use Rattle.device.proofs.Standing.{standing, standing-under, stored-new}
 use Rattle.upgrade.specs.Fold.{after}
-use Rattle.upgrade.specs.Calls.{DeviceEnd, DeviceCall, given, asked, installed, deviceNext}
+use Rattle.upgrade.specs.Calls.{DeviceCall, given, asked, installed}
+use Rattle.upgrade.specs.Records.{DeviceEnd, deviceNext}
 use Rattle.upgrade.specs.Held.{Held, heldBy, heldNext, heldAfter}
 use Rattle.upgrade.proofs.DeviceCalls.{endOf, DoesAt, StillAt, BeginsAt, StoresAt, MovesAt, begunAt, storedAt, inputOf, outIn, call-does, next-is, Moved, moves-to}
 use Rattle.upgrade.proofs.Run.{SoundEnd}
@@ -42,7 +43,7 @@ heldOn e n (hears condition r) h = pick (eqb n 0) (heldBy e condition r h) h
 heldOn e n asks h = h
 heldOn e n (installs code) h = h
 
-held-is : (e : DeviceEnd) (c : DeviceCall) (h : Held) → heldNext e c h ≡ heldOn e (outIn e c .number) (inputOf c) h
+held-is : (e : DeviceEnd) (c : DeviceCall Bool) (h : Held) → heldNext e c h ≡ heldOn e (outIn e c .number) (inputOf c) h
 unfolding heldNext heldOn
 held-is e (given supported pcp condition message reply) h = refl
 held-is e (asked reply) h = refl
@@ -183,7 +184,7 @@ module _ (e : DeviceEnd) (h : Held) (l : Lived e h) (input : Input) where
       (lived-on _ (held-installs e 0 code input h i) refl (λ _ r. omega arith)
       (sound-outcome (standing (Among (h .fragments))) (e .device) (e .image) (e .map) code p ok (l .sound)))
 
-pub lived : (cs : List DeviceCall) (e : DeviceEnd) (h : Held) → Lived e h → Lived (after deviceNext e cs) (heldAfter e h cs)
+pub lived : (cs : List (DeviceCall Bool)) (e : DeviceEnd) (h : Held) → Lived e h → Lived (after deviceNext e cs) (heldAfter e h cs)
 unfolding heldAfter
 lived [] e h l = l
 lived (c ∷ cs) e h l =

@@ -14,7 +14,7 @@ use Rattle.device.proofs.Sound.{Sound}
 use Rattle.device.proofs.Standing.{standing}
 use Rattle.gateway.specs.declared.Gateway.{Gateway}
 use Rattle.gateway.specs.Record as gateway
-use Rattle.upgrade.specs.Calls.{DeviceEnd, World}
+use Rattle.upgrade.specs.Records.{DeviceEnd, World}
 use Rattle.upgrade.proofs.Air.{Air, air-map}
 
 -- what a run is about: the package, the four fields with which it is offered, the image at the start, and of which bytes it is known that

@@ -1,14 +1,17 @@
 -- One call of the two ends together keeps the invariant of the runs. Assumes nothing.
 use Prim.Native.Nat.{ℕ}
 use native.Mathlib.Omega.{arith}
+use mathlib.Core.Bool.{Bool}
 use mathlib.Core.Path.{_≡_, _∙_}
+use mathlib.Core.List.{List}
 use Rattle.message.specs.Messages.{DeviceMessage, execute, GatewayMessage, executeReply, found, toDevice, toGateway}
 use Rattle.codec.specs.Codec.{readOf}
 use Rattle.codec.proofs.Heard.{device-told, gateway-told}
 use Rattle.device.proofs.Views.{hears, installs, spoken}
 use Rattle.gateway.specs.Record as gateway
-use Rattle.upgrade.specs.Calls.{DeviceCall, given, asked, installed, GatewayCall, World, atDevice, atGateway, next, May}
-use Rattle.upgrade.specs.Demand3.{Executed, Installed}
+use Rattle.upgrade.specs.Calls.{DeviceCall, given, asked, installed, GatewayCall, atDevice, atGateway, next, May}
+use Rattle.upgrade.specs.Records.{deviceNumber, World, records}
+use Rattle.upgrade.specs.Claims.{Executed, Installed}
 use Rattle.upgrade.proofs.Air.{Air, Heard, air-heard}
 use Rattle.upgrade.proofs.Run.{Plan, NotEnded, Run, untaken, taken}
 use Rattle.upgrade.proofs.DeviceCalls.{inputOf, outIn, call-does, next-is, says-is}
@@ -18,14 +21,14 @@ use Rattle.upgrade.proofs.DeviceSteps.{Brought, untaken-does, taken-doe
 -- ---- what an end is given is on the air
 
 module _ (w : World) where
-  pub gateway-hears : {P : GatewayMessage → Type 0} (c : GatewayCall) → Air toGateway P (w .fromDevice) → May w (atGateway c)
+  pub gateway-hears : {P : GatewayMessage → Type 0} (c : GatewayCall Bool) → Air toGateway P (w .fromDevice) → May w (atGateway c)
       → Heard toGateway P (heardIn c)
   unfolding May
   gateway-hears (GatewayCall.given supported pcp message reply) air m =
       air-heard toGateway gateway-told (w .fromDevice) air supported pcp message m
   gateway-hears (GatewayCall.asked reply) air m = λ n e. absurd (let z : _≡_ {A = ℕ} 0 1 = cc in omega arith)
 
-  pub device-hears : {P : DeviceMessage → Type 0} (c : DeviceCall) → Air toDevice P (w .fromGateway) → May w (atDevice c)
+  pub device-hears : {P : DeviceMessage → Type 0} (c : DeviceCall Bool) → Air toDevice P (w .fromGateway) → May w (atDevice c)
       → Brought P (inputOf c)
   unfolding May
   device-hears (given supported pcp condition message reply) air m =
@@ -37,30 +40,31 @@ module _ (w : World) where
 
   -- ---- the two events
 
-  is-executed : (c : DeviceCall) (condition : ℕ) → inputOf c ≡ hears condition (found execute)
-      → outIn (w .deviceEnd) c .says ≡ spoken (executeReply 0x00) → Executed w (atDevice c)
-  is-executed (given supported pcp condition message reply) k i s =
+  is-executed : (content : List ℕ) (c : DeviceCall Bool) (condition : ℕ) → inputOf c ≡ hears condition (found execute)
+      → outIn (w .deviceEnd) c .says ≡ spoken (executeReply 0x00) → Executed (records content) w (atDevice c)
+  is-executed content (given supported pcp condition message reply) k i s =
       let r : readOf toDevice supported pcp message ≡ found execute = cc in
       (r, says-is (w .deviceEnd) (given supported pcp condition message reply) ∙ s)
-  is-executed (asked reply) k i s = absurd (let z : _≡_ {A = ℕ} 0 1 = cc in omega arith)
-  is-executed (installed code) k i s = absurd (let z : _≡_ {A = ℕ} 0 1 = cc in omega arith)
+  is-executed content (asked reply) k i s = absurd (let z : _≡_ {A = ℕ} 0 1 = cc in omega arith)
+  is-executed content (installed code) k i s = absurd (let z : _≡_ {A = ℕ} 0 1 = cc in omega arith)
 
-  is-installed : (c : DeviceCall) → inputOf c ≡ installs 0x00 → outIn (w .deviceEnd) c .number ≡ 0 → Installed w (atDevice c)
-  is-installed (given supported pcp condition message reply) i n = absurd (let z : _≡_ {A = ℕ} 0 1 = cc in omega arith)
-  is-installed (asked reply) i n = absurd (let z : _≡_ {A = ℕ} 0 1 = cc in omega arith)
-  is-installed (installed code) i n = (let r : code ≡ 0x00 = cc in r, n)
+  is-installed : (content : List ℕ) (c : DeviceCall Bool) → inputOf c ≡ installs 0x00 → outIn (w .deviceEnd) c .number ≡ 0 → Installed (records content) w (atDevice c)
+  unfolding deviceNumber
+  is-installed content (given supported pcp condition message reply) i n = absurd (let z : _≡_ {A = ℕ} 0 1 = cc in omega arith)
+  is-installed content (asked reply) i n = absurd (let z : _≡_ {A = ℕ} 0 1 = cc in omega arith)
+  is-installed content (installed code) i n = (let r : code ≡ 0x00 = cc in r, n)
 
 -- ---- a call
 
 module _ (p : Plan) (w : World) where
-  pub gateway-keeps : {E I : Type 0} (c : GatewayCall) → gateway.offered (w .gateway) ≡ p .offer → May w (atGateway c) → Run p w E I
-      → Run p (next (p .content) w (atGateway c)) E I
+  pub gateway-keeps : {E I : Type 0} (c : GatewayCall Bool) → gateway.offered (w .gateway) ≡ p .offer → May w (atGateway c) → Run p w E I
+      → Run p (next (records (p .content)) w (atGateway c)) E I
   gateway-keeps c o m (untaken u) = untaken (untaken-turn p w c o u (gateway-hears w c (u .heard) m))
   gateway-keeps c o m (taken t) = taken (taken-turn p w c o t (gateway-hears w c (t .heard) m))
 
-  pub device-keeps : {E E′ I I′ : Type 0} (c : DeviceCall) → (E → E′) → (I → I′) → (Executed w (atDevice c) → E′)
-      → (Installed w (atDevice c) → E → NotEnded (w .gateway) → I′) → May w (atDevice c) → Run p w E I
-      → Run p (next (p .content) w (atDevice c)) E′ I′
+  pub device-keeps : {E E′ I I′ : Type 0} (c : DeviceCall Bool) → (E → E′) → (I → I′) → (Executed (records (p .content)) w (atDevice c) → E′)
+      → (Installed (records (p .content)) w (atDevice c) → E → NotEnded (w .gateway) → I′) → May w (atDevice c) → Run p w E I
+      → Run p (next (records (p .content)) w (atDevice c)) E′ I′
   unfolding next
   device-keeps c j k x y m (untaken u) =
       rw (next-is (w .deviceEnd) c, says-is (w .deviceEnd) c)
@@ -68,4 +72,4 @@ module _ (p : Plan) (w : World) where
   device-keeps c j k x y m (taken t) =
       rw (next-is (w .deviceEnd) c, says-is (w .deviceEnd) c)
       (taken-does p w j k t (inputOf c) (outIn (w .deviceEnd) c) (device-hears w c (t .said) m)
-      (λ condition i s. x (is-executed w c condition i s)) (λ i n. y (is-installed w c i n)) (call-does (w .deviceEnd) c))
+      (λ condition i s. x (is-executed w (p .content) c condition i s)) (λ i n. y (is-installed w (p .content) c i n)) (call-does (w .deviceEnd) c))

@@ -1,4 +1,5 @@
--- The calls of 01, "Runs of demand 3": at each end, and of both ends with the air between them. Assumes nothing.
+-- The calls of 01, "Runs of demand 3", and two ends with the air between them, however each end keeps its state: as records (Records), or
+-- as bytes that its host keeps (crate hosted). Assumes nothing.
 use Prim.Native.Nat.{ℕ}
 use mathlib.Core.Bool.{Bool}
 use mathlib.Core.List.{List, [], _∷_, _++_, List·Memᴰ}
@@ -6,97 +7,84 @@ use lib.Dec.{eqb}
 use lib.ListN.{take}
 use Rattle.basis.specs.Choice.{pick}
 use Rattle.device_record.specs.declared.Device.{Device}
-use Rattle.device.specs.Rules as device
 use Rattle.gateway.specs.declared.Gateway.{Gateway}
-use Rattle.gateway.specs.Rules as gateway
 
 -- what an ask or a reply puts on the air: a copy of its bytes, nothing where there is none
 unfoldable pub aired : (length : ℕ) (buffer : List ℕ) → List (List ℕ)
 aired length buffer = pick (eqb length 0) [] (take length buffer ∷ [])
 
--- ---- the device, with image and map as the last call left them
+-- ---- the calls, with any bytes, condition, reply buffer and code; F is the form in which a recognition fact is given
 
-pub record DeviceEnd : Type 0 where
-  pub device : Device
-  pub image : List ℕ
-  pub map : List ℕ
+-- a message is given, the next message is asked for, the installer ends
+pub data DeviceCall (F : Type 0) : Type 0 where
+  given : (supported pcp : F) (condition : ℕ) (message reply : List ℕ) → DeviceCall F
+  asked : (reply : List ℕ) → DeviceCall F
+  installed : (code : ℕ) → DeviceCall F
 
--- a message is given, the next message is asked for, the installer ends; any bytes, facts, condition, reply buffer and code
-pub data DeviceCall : Type 0 where
-  given : (supported pcp : Bool) (condition : ℕ) (message reply : List ℕ) → DeviceCall
-  asked : (reply : List ℕ) → DeviceCall
-  installed : (code : ℕ) → DeviceCall
+pub data GatewayCall (F : Type 0) : Type 0 where
+  given : (supported pcp : F) (message reply : List ℕ) → GatewayCall F
+  asked : (reply : List ℕ) → GatewayCall F
 
--- what a message that is given leaves
-abbrev pub deviceAnswer : DeviceEnd → (supported pcp : Bool) (condition : ℕ) (message reply : List ℕ) → device.After
-deviceAnswer e supported pcp condition message reply =
-    device.receiveOf (e .device) (e .image) (e .map) reply supported pcp condition message
+pub data Call (F : Type 0) : Type 0 where
+  atDevice : DeviceCall F → Call F
+  atGateway : GatewayCall F → Call F
 
-unfoldable pub deviceNext : DeviceEnd → DeviceCall → DeviceEnd
-deviceNext e (given supported pcp condition message reply) =
-    let a : device.After = deviceAnswer e supported pcp condition message reply in
-    record { device = a .device; image = a .image; map = a .map }
-deviceNext e (asked reply) = e
-deviceNext e (installed code) = record { device = device.installFinishedOf (e .device) code .device; image = e .image; map = e .map }
+-- ---- an end: what it keeps from call to call, and what a call leaves, puts on the air and is answered with
 
-unfoldable pub deviceSays : DeviceEnd → DeviceCall → List (List ℕ)
-deviceSays e (given supported pcp condition message reply) =
-    let a : device.After = deviceAnswer e supported pcp condition message reply in
-    aired (a .length) (a .reply)
-deviceSays e (asked reply) =
-    let s : Rattle.codec.specs.Codec.Sent = device.nextMessageOf (e .device) (e .image) (e .map) reply in
-    aired (s .length) (s .buffer)
-deviceSays e (installed code) = []
+pub record DeviceSide (F : Type 0) : Type 1 where
+  pub State : Type 0
+  pub device : State → Device
+  pub image : State → List ℕ
+  pub map : State → List ℕ
+  -- the same with another image, which the next call is lent
+  pub lend : State → (image : List ℕ) → State
+  pub next : State → DeviceCall F → State
+  pub says : State → DeviceCall F → List (List ℕ)
+  pub number : State → DeviceCall F → ℕ
 
--- ---- the gateway, with its package
+-- the package is the same from call to call
+pub record GatewaySide (F : Type 0) : Type 1 where
+  pub State : Type 0
+  pub gateway : State → Gateway
+  pub next : State → GatewayCall F → State
+  pub says : State → GatewayCall F → List (List ℕ)
 
-pub data GatewayCall : Type 0 where
-  given : (supported pcp : Bool) (message reply : List ℕ) → GatewayCall
-  asked : (reply : List ℕ) → GatewayCall
-
-module _ (content : List ℕ) where
-  unfoldable pub gatewayNext : Gateway → GatewayCall → Gateway
-  gatewayNext g (GatewayCall.given supported pcp message reply) = gateway.receiveOf g content reply supported pcp message .gateway
-  gatewayNext g (GatewayCall.asked reply) = g
-
-  unfoldable pub gatewaySays : Gateway → GatewayCall → List (List ℕ)
-  gatewaySays g (GatewayCall.given supported pcp message reply) =
-      let a : gateway.After = gateway.receiveOf g content reply supported pcp message in
-      aired (a .length) (a .reply)
-  gatewaySays g (GatewayCall.asked reply) =
-      let s : Rattle.codec.specs.Codec.Sent = gateway.nextMessageOf g content reply in
-      aired (s .length) (s .buffer)
+pub record Ends : Type 1 where
+  pub Fact : Type 0
+  pub fact : Fact → Bool
+  pub device : DeviceSide Fact
+  pub gateway : GatewaySide Fact
 
 -- ---- both ends, and what each has put on the air
 
-pub record World : Type 0 where
-  pub deviceEnd : DeviceEnd
-  pub gateway : Gateway
+pub record Exchange (D G : Type 0) : Type 0 where
+  pub deviceEnd : D
+  pub gateway : G
   pub fromDevice : List (List ℕ)
   pub fromGateway : List (List ℕ)
 
-pub data Call : Type 0 where
-  atDevice : DeviceCall → Call
-  atGateway : GatewayCall → Call
+module _ (e : Ends) where
+  abbrev pub Both : Type 0
+  Both = Exchange (e .device .State) (e .gateway .State)
 
-unfoldable pub next : (content : List ℕ) → World → Call → World
-next content w (atDevice c) =
-    record {
-      deviceEnd = deviceNext (w .deviceEnd) c;
-      gateway = w .gateway;
-      fromDevice = deviceSays (w .deviceEnd) c ++ w .fromDevice;
-      fromGateway = w .fromGateway;
-    }
-next content w (atGateway c) =
-    record {
-      deviceEnd = w .deviceEnd;
-      gateway = gatewayNext content (w .gateway) c;
-      fromDevice = w .fromDevice;
-      fromGateway = gatewaySays content (w .gateway) c ++ w .fromGateway;
-    }
+  unfoldable pub next : Both → Call (e .Fact) → Both
+  next w (atDevice c) =
+      record {
+        deviceEnd = e .device .next (w .deviceEnd) c;
+        gateway = w .gateway;
+        fromDevice = e .device .says (w .deviceEnd) c ++ w .fromDevice;
+        fromGateway = w .fromGateway;
+      }
+  next w (atGateway c) =
+      record {
+        deviceEnd = w .deviceEnd;
+        gateway = e .gateway .next (w .gateway) c;
+        fromDevice = w .fromDevice;
+        fromGateway = e .gateway .says (w .gateway) c ++ w .fromGateway;
+      }
 
 -- each end is given only what the other has put on the air
-unfoldable pub May : World → Call → Type 0
+unfoldable pub May : {D G F : Type 0} → Exchange D G → Call F → Type 0
 May w (atDevice (given supported pcp condition message reply)) = List·Memᴰ message (w .fromGateway)
 May w (atDevice (asked reply)) = Unit {0}
 May w (atDevice (installed code)) = Unit {0}

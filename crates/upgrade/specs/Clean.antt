@@ -7,59 +7,77 @@ use lib.ListN.{length}
 use Rattle.basis.specs.Bytes.{same}
 use Rattle.message.specs.Limits.{deviceRoom, gatewayRoom}
 use Rattle.device_record.specs.Record.{idle, mapBytes}
-use Rattle.device.specs.Rules.{nextMessageOf}
 use Rattle.gateway.specs.Record as gateway
 use Rattle.upgrade.specs.Fold.{Allowed}
-use Rattle.upgrade.specs.Calls.{DeviceCall, given, asked, installed, deviceSays, GatewayCall, gatewaySays, World, Call, atDevice, atGateway, next, May}
-use Rattle.upgrade.specs.Demand3.{Before, Ready, deviceThen, start, worldAfter}
+use Rattle.upgrade.specs.Calls.{DeviceCall, given, asked, installed, GatewayCall, Call, atDevice, atGateway, Ends, Both, next, May}
+use Rattle.upgrade.specs.Records.{records, World}
+use Rattle.upgrade.specs.Claims.{Success, reached}
+use Rattle.upgrade.specs.Demand3.{Before, Ready, deviceThen, start}
 
--- A call made in the world w is lent the reply buffer `deviceReply w` or `gatewayReply w`: each call may get another.
-module _ (content : List ℕ) (deviceReply gatewayReply : World → List ℕ) where
-  -- messages that arrive at an end, both facts yes, condition 0
-  unfoldable pub arriveAtDevice : World → List (List ℕ) → World
+-- some list of calls that demand 3 allows leads from the start to here
+abbrev pub Reached : (e : Ends) (start here : Both e) → Type 0
+Reached e start here = (calls : List (Call (e .Fact))) × Allowed (next e) May start calls × (here ≡ reached e start calls)
+
+-- Both facts are given as `affirmed`, which means yes. A call made in the state w is lent the reply buffer `deviceReply w` or `gatewayReply w`: each call may get
+-- another.
+module _ (e : Ends) (affirmed : e .Fact) (deviceReply gatewayReply : Both e → List ℕ) where
+  -- messages that arrive at an end; condition 0
+  unfoldable pub arriveAtDevice : Both e → List (List ℕ) → Both e
   arriveAtDevice w [] = w
-  arriveAtDevice w (m ∷ ms) = arriveAtDevice (next content w (atDevice (given true true 0 m (deviceReply w)))) ms
+  arriveAtDevice w (m ∷ ms) = arriveAtDevice (next e w (atDevice (given affirmed affirmed 0 m (deviceReply w)))) ms
 
-  unfoldable pub arriveAtGateway : World → List (List ℕ) → World
+  unfoldable pub arriveAtGateway : Both e → List (List ℕ) → Both e
   arriveAtGateway w [] = w
-  arriveAtGateway w (m ∷ ms) = arriveAtGateway (next content w (atGateway (GatewayCall.given true true m (gatewayReply w)))) ms
+  arriveAtGateway w (m ∷ ms) = arriveAtGateway (next e w (atGateway (GatewayCall.given affirmed affirmed m (gatewayReply w)))) ms
 
   -- a message arrives and its reply, where there is one, comes back
-  unfoldable pub answeredByDevice : World → List (List ℕ) → World
+  unfoldable pub answeredByDevice : Both e → List (List ℕ) → Both e
   answeredByDevice w [] = w
   answeredByDevice w (m ∷ ms) =
-      let c : DeviceCall = given true true 0 m (deviceReply w) in
-      answeredByDevice (arriveAtGateway (next content w (atDevice c)) (deviceSays (w .deviceEnd) c)) ms
+      let c : DeviceCall (e .Fact) = given affirmed affirmed 0 m (deviceReply w) in
+      answeredByDevice (arriveAtGateway (next e w (atDevice c)) (e .device .says (w .deviceEnd) c)) ms
 
-  unfoldable pub answeredByGateway : World → List (List ℕ) → World
+  unfoldable pub answeredByGateway : Both e → List (List ℕ) → Both e
   answeredByGateway w [] = w
   answeredByGateway w (m ∷ ms) =
-      let c : GatewayCall = GatewayCall.given true true m (gatewayReply w) in
-      answeredByGateway (arriveAtDevice (next content w (atGateway c)) (gatewaySays content (w .gateway) c)) ms
+      let c : GatewayCall (e .Fact) = GatewayCall.given affirmed affirmed m (gatewayReply w) in
+      answeredByGateway (arriveAtDevice (next e w (atGateway c)) (e .gateway .says (w .gateway) c)) ms
 
   -- an end is asked once
-  unfoldable pub gatewayAsked : World → World
+  unfoldable pub gatewayAsked : Both e → Both e
   gatewayAsked w =
-      let c : GatewayCall = GatewayCall.asked (gatewayReply w) in
-      answeredByDevice (next content w (atGateway c)) (gatewaySays content (w .gateway) c)
+      let c : GatewayCall (e .Fact) = GatewayCall.asked (gatewayReply w) in
+      answeredByDevice (next e w (atGateway c)) (e .gateway .says (w .gateway) c)
 
-  unfoldable pub deviceAsked : World → World
+  unfoldable pub deviceAsked : Both e → Both e
   deviceAsked w =
-      let c : DeviceCall = asked (deviceReply w) in
-      answeredByGateway (next content w (atDevice c)) (deviceSays (w .deviceEnd) c)
+      let c : DeviceCall (e .Fact) = asked (deviceReply w) in
+      answeredByGateway (next e w (atDevice c)) (e .device .says (w .deviceEnd) c)
 
   -- the number with which the device answers an ask
-  abbrev pub askedNumber : World → ℕ
-  askedNumber w = nextMessageOf (w .deviceEnd .device) (w .deviceEnd .image) (w .deviceEnd .map) (deviceReply w) .number
+  abbrev pub askedNumber : Both e → ℕ
+  askedNumber w = e .device .number (w .deviceEnd) (asked (deviceReply w))
 
   -- the device is asked until it has nothing to send, which is 9
-  pub data UntilSilent : World → World → Type 0 where
-    silent : {w : World} → askedNumber w ≡ 9 → UntilSilent w w
-    spoken : {w v : World} → (askedNumber w ≡ 9 → ⊥) → UntilSilent (deviceAsked w) v → UntilSilent w v
+  pub data UntilSilent : Both e → Both e → Type 0 where
+    silent : {w : Both e} → askedNumber w ≡ 9 → UntilSilent w w
+    spoken : {w v : Both e} → (askedNumber w ≡ 9 → ⊥) → UntilSilent (deviceAsked w) v → UntilSilent w v
 
   -- the gateway is asked once in Run, the installer reports 00, the device is asked once more
-  abbrev pub ending : World → World
-  ending v = deviceAsked (next content (gatewayAsked v) (atDevice (installed 0x00)))
+  abbrev pub ending : Both e → Both e
+  ending v = deviceAsked (next e (gatewayAsked v) (atDevice (installed 0x00)))
+
+  -- The device falls silent, and whenever it has, the gateway is in Run and the rest of the run leaves it Ended with 0. Lists of
+  -- calls that demand 3 allows lead to both states, so its claims hold of them.
+  abbrev pub CleanRunOf : (start : Both e) → Type 0
+  CleanRunOf start =
+      let first : Both e = gatewayAsked start in
+      ((v : Both e) × UntilSilent first v)
+      × ((v : Both e) → UntilSilent first v →
+      Reached e start v
+      × (e .gateway .gateway (v .gateway) .phase ≡ gateway.run)
+      × Reached e start (ending v)
+      × Success e (ending v))
 
 -- The device starts Idle with another version, and all buffers are long enough.
 pub record CleanStart (b : Before) (deviceReply gatewayReply : World → List ℕ) : Type 0 where
@@ -71,21 +89,7 @@ pub record CleanStart (b : Before) (deviceReply gatewayReply : World → List �
   pub device-room : (w : World) → deviceRoom ≤ length (deviceReply w)
   pub gateway-room : (w : World) → gatewayRoom ≤ length (gatewayReply w)
 
--- some list of calls that demand 3 allows leads here
-abbrev pub Reached : Before → World → Type 0
-Reached b w = (calls : List Call) × Allowed (next (b .content)) May (start b) calls × (w ≡ worldAfter b calls)
-
--- The device falls silent, and whenever it has, the gateway is in Run and the rest of the run leaves it Ended with 0. Lists of
--- calls that demand 3 allows lead to both worlds, so its claims hold of them.
 abbrev pub CleanRun : Type 0
 CleanRun =
     (b : Before) (deviceReply gatewayReply : World → List ℕ) → CleanStart b deviceReply gatewayReply →
-    let first : World = gatewayAsked (b .content) deviceReply gatewayReply (start b) in
-    ((v : World) × UntilSilent (b .content) deviceReply gatewayReply first v)
-    × ((v : World) → UntilSilent (b .content) deviceReply gatewayReply first v →
-    let last : World = ending (b .content) deviceReply gatewayReply v in
-    Reached b v
-    × (v .gateway .phase ≡ gateway.run)
-    × Reached b last
-    × (last .gateway .phase ≡ gateway.ended)
-    × (last .gateway .ending ≡ 0))
+    CleanRunOf (records (b .content)) true deviceReply gatewayReply (start b)

@@ -3,52 +3,46 @@
 -- with 14. Assumes nothing.
 use Prim.Native.Nat.{ℕ, _≤_}
 use mathlib.Core.Path.{_≡_}
-use mathlib.Core.Bool.{Bool, true}
+use mathlib.Core.Bool.{true}
 use mathlib.Core.List.{List, []}
 use Rattle.bitmap.specs.Bitmap.{setBits}
 use Rattle.device_record.specs.Record.{loading, reporting, newOf, recordOk, roomOk}
-use Rattle.device.specs.Rules as device
 use Rattle.upgrade.specs.Fold.{after}
-use Rattle.upgrade.specs.Calls.{DeviceEnd, DeviceCall, deviceAnswer, deviceNext}
+use Rattle.upgrade.specs.Calls.{DeviceCall, DeviceSide}
+use Rattle.upgrade.specs.Records.{deviceRecords}
 
--- ---- one map, any image in each call
+module _ {F : Type 0} (s : DeviceSide F) where
+  -- ---- one map, any image in each call
 
--- the record and the map as the last call left them, with the image that this call is lent
-abbrev pub lent : DeviceEnd → (image : List ℕ) → DeviceEnd
-lent e image = record { device = e .device; image = image; map = e .map }
+  -- What holds of a device's record and its map, as calls left them, whatever image comes next.
+  pub record Counted (d : s .State) : Type 0 where
+    pub count : loading ≤ s .device d .phase → s .device d .phase ≤ reporting → s .device d .stored ≡ setBits (s .map d) (s .device d .fields .total)
+    pub record-holds : recordOk (s .device d) ≡ true
+    pub not-29 : (image : List ℕ) (c : DeviceCall F) → s .number (s .lend d image) c ≡ 29 → ⊥
 
-abbrev pub lentNext : DeviceEnd → (List ℕ × DeviceCall) → DeviceEnd
-lentNext e (image, c) = deviceNext (lent e image) c
+  -- a call, lent an image of its own
+  abbrev pub lentNext : s .State → (List ℕ × DeviceCall F) → s .State
+  lentNext d (image, c) = s .next (s .lend d image) c
 
--- What holds of a device's record and its map, as calls left them, whatever image comes next.
-pub record Counted (e : DeviceEnd) : Type 0 where
-  pub count : loading ≤ e .device .phase → e .device .phase ≤ reporting → e .device .stored ≡ setBits (e .map) (e .device .fields .total)
-  pub record-holds : recordOk (e .device) ≡ true
-  pub given-not-29 : (image : List ℕ) (supported pcp : Bool) (condition : ℕ) (message reply : List ℕ)
-      → deviceAnswer (lent e image) supported pcp condition message reply .number ≡ 29
-      → ⊥
-  pub asked-not-29 : (image reply : List ℕ) → device.nextMessageOf (e .device) image (e .map) reply .number ≡ 29 → ⊥
-  pub installed-not-29 : (code : ℕ) → device.installFinishedOf (e .device) code .number ≡ 29 → ⊥
+  abbrev pub CountOf : s .State → Type 0
+  CountOf made = (calls : List (List ℕ × DeviceCall F)) → Counted (after lentNext made calls)
+
+  -- ---- one map and one image
+
+  -- What holds of a device's record with image and map, as calls left them.
+  pub record Roomy (d : s .State) : Type 0 where
+    pub room-holds : roomOk (s .device d) (s .image d) (s .map d) ≡ true
+    pub not-14 : (c : DeviceCall F) → s .number d c ≡ 14 → ⊥
+
+  abbrev pub RoomOf : s .State → Type 0
+  RoomOf made = (calls : List (DeviceCall F)) → Roomy (after (s .next) made calls)
 
 -- A fresh record and one map, then any list of calls, each with an image of its own.
 abbrev pub Count : Type 0
-Count =
-    (version map : List ℕ) → newOf version .number ≡ 0 → (calls : List (List ℕ × DeviceCall)) →
-    Counted (after lentNext (record { device = newOf version .device; image = []; map = map }) calls)
-
--- ---- one map and one image
-
--- What holds of a device's record with image and map, as calls left them.
-pub record Roomy (e : DeviceEnd) : Type 0 where
-  pub room-holds : roomOk (e .device) (e .image) (e .map) ≡ true
-  pub given-not-14 : (supported pcp : Bool) (condition : ℕ) (message reply : List ℕ)
-      → deviceAnswer e supported pcp condition message reply .number ≡ 14
-      → ⊥
-  pub asked-not-14 : (reply : List ℕ) → device.nextMessageOf (e .device) (e .image) (e .map) reply .number ≡ 14 → ⊥
-  pub installed-not-14 : (code : ℕ) → device.installFinishedOf (e .device) code .number ≡ 14 → ⊥
+Count = (version map : List ℕ) → newOf version .number ≡ 0 → CountOf deviceRecords (record { device = newOf version .device; image = []; map = map })
 
 -- A fresh record, one image and one map, then any list of calls.
 abbrev pub Room : Type 0
 Room =
-    (version image map : List ℕ) → newOf version .number ≡ 0 → (calls : List DeviceCall) →
-    Roomy (after deviceNext (record { device = newOf version .device; image = image; map = map }) calls)
+    (version image map : List ℕ) → newOf version .number ≡ 0 →
+    RoomOf deviceRecords (record { device = newOf version .device; image = image; map = map })

@@ -2,7 +2,7 @@
 -- announcement that zeroed them, worked out along the device's calls. That it counts only where these leave the device in phase 1, 2 or
 -- 3 is said where it is used. Assumes nothing.
 use Prim.Native.Nat.{ℕ}
-use mathlib.Core.Bool.{_&&_, not}
+use mathlib.Core.Bool.{Bool, _&&_, not}
 use mathlib.Core.List.{List, [], _∷_}
 use lib.Dec.{eqb}
 use Rattle.basis.specs.Choice.{pick}
@@ -10,7 +10,8 @@ use Rattle.message.specs.Messages.{DeviceMessage, query, announce, fragment, do
 use Rattle.codec.specs.Codec.{readOf}
 use Rattle.message.specs.declared.Fields.{Fields}
 use Rattle.device.specs.Rules.{announceResult, resumes}
-use Rattle.upgrade.specs.Calls.{DeviceEnd, DeviceCall, given, asked, installed, deviceAnswer, deviceNext}
+use Rattle.upgrade.specs.Calls.{DeviceCall, given, asked, installed}
+use Rattle.upgrade.specs.Records.{DeviceEnd, deviceAnswer, deviceNext}
 
 pub record Held : Type 0 where
   pub fields : Fields
@@ -30,7 +31,7 @@ heldBy e condition (found (downloadReply result)) h = h
 heldBy e condition (found execute) h = h
 heldBy e condition (found (resultReply result)) h = h
 
-unfoldable pub heldNext : DeviceEnd → DeviceCall → Held → Held
+unfoldable pub heldNext : DeviceEnd → DeviceCall Bool → Held → Held
 heldNext e (given supported pcp condition message reply) h =
     pick (eqb (deviceAnswer e supported pcp condition message reply .number) 0)
     (heldBy e condition (readOf toDevice supported pcp message) h)
@@ -39,6 +40,6 @@ heldNext e (asked reply) h = h
 heldNext e (installed code) h = h
 
 -- along a list of calls
-unfoldable pub heldAfter : DeviceEnd → Held → List DeviceCall → Held
+unfoldable pub heldAfter : DeviceEnd → Held → List (DeviceCall Bool) → Held
 heldAfter e h [] = h
 heldAfter e h (c ∷ cs) = heldAfter (deviceNext e c) (heldNext e c h) cs

@@ -1,0 +1,54 @@
+-- The count of what hosts keep: that of the record in its bytes. Assumes nothing.
+use Prim.Native.Nat.{ℕ, _≤_}
+use mathlib.Core.Path.{_≡_, sym, _∙_, subst}
+use mathlib.Core.Bool.{Bool}
+use mathlib.Core.List.{List, [], map}
+use lib.ListN.{length}
+use Rattle.device_record.specs.Record.{newOf}
+use Rattle.layout.specs.Layout.{deviceLength}
+use Rattle.host.specs.Exports.{fact, textOf}
+use Rattle.upgrade.specs.Fold.{after}
+use Rattle.upgrade.specs.Calls.{DeviceCall}
+use Rattle.upgrade.specs.Records.{DeviceEnd, deviceNext, deviceRecords}
+use Rattle.upgrade.specs.Counted.{Counted, lentNext, Roomy}
+use Rattle.upgrade.proofs.Count.{count, room}
+use Rattle.hosted.specs.Hosts.{DeviceHost, deviceHosts, deviceHostNext, deviceSeen, deviceCallAs}
+use Rattle.hosted.specs.Hosted.{hostMade, HostMade, HostedCount, HostedRoom}
+use Rattle.hosted.proofs.Shown.{shown}
+use Rattle.hosted.proofs.Runs.{device-room, device-next, device-number-is}
+use Rattle.hosted.proofs.Demand3.{made-number, made-room, made-seen}
+
+abbrev Fits : DeviceHost → Type 0
+Fits h = deviceLength ≤ length (h .bytes)
+
+abbrev lentCallAs : (List ℕ × DeviceCall ℕ) → (List ℕ × DeviceCall Bool)
+lentCallAs (image, c) = (image, deviceCallAs fact c)
+
+counted-kept : (h : DeviceHost) → Fits h → Counted deviceRecords (deviceSeen h) → Counted deviceHosts h
+counted-kept h f k =
+    record {
+      count = k .count;
+      record-holds = k .record-holds;
+      not-29 = λ image c e. k .not-29 image (deviceCallAs fact c) (sym (device-number-is (deviceHosts .lend h image) c f) ∙ e);
+    }
+
+roomy-kept : (h : DeviceHost) → Fits h → Roomy deviceRecords (deviceSeen h) → Roomy deviceHosts h
+roomy-kept h f k =
+    record { room-holds = k .room-holds; not-14 = λ c e. k .not-14 (deviceCallAs fact c) (sym (device-number-is h c f) ∙ e) }
+
+pub hosted-count : HostedCount
+hosted-count buffer running map′ m calls =
+    let made : DeviceHost = hostMade buffer running [] map′ in
+    let run = shown (lentNext deviceHosts) (lentNext deviceRecords) deviceSeen lentCallAs Fits
+    (λ (h : DeviceHost) (c : List ℕ × DeviceCall ℕ). device-room (deviceHosts .lend h (c .0)) (c .1))
+    (λ (h : DeviceHost) (c : List ℕ × DeviceCall ℕ). device-next (deviceHosts .lend h (c .0)) (c .1))
+    calls made (made-room buffer running m) in
+    counted-kept _ (run .0)
+    (rw (run .1, made-seen buffer running m [] map′) (count (textOf running) map′ (made-number buffer running m) (map lentCallAs calls)))
+
+pub hosted-room : HostedRoom
+hosted-room buffer running image map′ m calls =
+    let run = shown deviceHostNext deviceNext deviceSeen (deviceCallAs fact) Fits device-room device-next calls (hostMade buffer running image map′)
+    (made-room buffer running m) in
+    roomy-kept _ (run .0)
+    (rw (run .1, made-seen buffer running m image map′) (room (textOf running) image map′ (made-number buffer running m) (map (deviceCallAs fact) calls)))
