@@ -47,23 +47,25 @@ run-fine (c ∷ cs) e s = run-fine cs (deviceNext e c) (call-fine e c s)
 
 -- ---- one map and one image
 
-roomy : (e : DeviceEnd) → Fine e → Roomy deviceRecords e
+pub room : Room
 unfolding deviceNumber
-roomy e s = record { room-holds = sound-room rule (e .device) (e .image) (e .map) s; not-14 = not-14 }
+room version image map made calls =
+    roomy (after deviceNext first calls) (run-fine calls first (made-fine version image map made))
   where
+    first : DeviceEnd
+    first = record { device = newOf version .device; image = image; map = map }
+
     rule : Rule
     rule = standing any
 
-    not-14 : (c : DeviceCall Bool) → deviceNumber e c ≡ 14 → ⊥
-    not-14 (given supported pcp condition message reply) =
+    not-14 : (e : DeviceEnd) → Fine e → (c : DeviceCall Bool) → deviceNumber e c ≡ 14 → ⊥
+    not-14 e s (given supported pcp condition message reply) =
         receive-neither rule (e .device) (e .image) (e .map) s reply supported pcp condition message .1
-    not-14 (asked reply) = ask-neither rule (e .device) (e .image) (e .map) s reply .1
-    not-14 (installed code) = install-neither rule (e .device) (e .image) (e .map) s code .1
+    not-14 e s (asked reply) = ask-neither rule (e .device) (e .image) (e .map) s reply .1
+    not-14 e s (installed code) = install-neither rule (e .device) (e .image) (e .map) s code .1
 
-pub room : Room
-room version image map made calls =
-    roomy (after deviceNext (record { device = newOf version .device; image = image; map = map }) calls)
-    (run-fine calls (record { device = newOf version .device; image = image; map = map }) (made-fine version image map made))
+    roomy : (e : DeviceEnd) → Fine e → Roomy deviceRecords e
+    roomy e s = record { room-holds = sound-room rule (e .device) (e .image) (e .map) s; not-14 = not-14 e s }
 
 -- ---- one map, any image in each call
 
@@ -81,23 +83,26 @@ run-kept : (calls : List (List ℕ × DeviceCall Bool)) (e : DeviceEnd) → Kept
 run-kept [] e k = k
 run-kept (c ∷ cs) e k = run-kept cs (lentNext deviceRecords e c) (call-kept e c k)
 
-counted : (e : DeviceEnd) → KeptIn e → Counted deviceRecords e
-unfolding deviceNumber
-counted e k =
-    record {
-      count = λ some known. k .sound .download (λ z. omega arith) .counts;
-      record-holds = kept-record (e .device) (e .map) k;
-      not-29 = not-29;
-    }
-  where
-    not-29 : (image : List ℕ) (c : DeviceCall Bool) → deviceNumber (record { device = e .device; image = image; map = e .map }) c ≡ 29 → ⊥
-    not-29 image (given supported pcp condition message reply) =
-        given-unmet (e .device) image (e .map) reply supported pcp condition message (kept-record (e .device) (e .map) k)
-    not-29 image (asked reply) = asked-unmet (e .device) image (e .map) reply k
-    not-29 image (installed code) = installed-unmet (e .device) (e .map) code k
-
 pub count : Count
+unfolding deviceNumber
 count version map made calls =
-    let e : DeviceEnd = record { device = newOf version .device; image = []; map = map } in
-    counted (after (lentNext deviceRecords) e calls)
-    (run-kept calls e (kept-by (standing any) (e .device) [] map (made-fine version [] map made)))
+    counted (after (lentNext deviceRecords) first calls)
+    (run-kept calls first (kept-by (standing any) (first .device) [] map (made-fine version [] map made)))
+  where
+    first : DeviceEnd
+    first = record { device = newOf version .device; image = []; map = map }
+
+    not-29 : (e : DeviceEnd) → KeptIn e → (image : List ℕ) (c : DeviceCall Bool)
+        → deviceNumber (record { device = e .device; image = image; map = e .map }) c ≡ 29 → ⊥
+    not-29 e k image (given supported pcp condition message reply) =
+        given-unmet (e .device) image (e .map) reply supported pcp condition message (kept-record (e .device) (e .map) k)
+    not-29 e k image (asked reply) = asked-unmet (e .device) image (e .map) reply k
+    not-29 e k image (installed code) = installed-unmet (e .device) (e .map) code k
+
+    counted : (e : DeviceEnd) → KeptIn e → Counted deviceRecords e
+    counted e k =
+        record {
+          count = λ some known. k .sound .download (λ z. omega arith) .counts;
+          record-holds = kept-record (e .device) (e .map) k;
+          not-29 = not-29 e k;
+        }

@@ -18,3 +18,4 @@ pub mod CleanSteps
 pub mod CleanCourse
 pub mod CleanAllowed
 pub mod CleanRun
+pub mod Witnessed

@@ -6,3 +6,4 @@ pub mod Claims
 pub mod Demand3
 pub mod Clean
 pub mod Counted
+pub mod Witnesses
