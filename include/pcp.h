@@ -31,7 +31,8 @@
    pcp_gateway_phase, pcp_gateway_ending.
 
    Building.  The library is one archive for x86-64 Linux, libhost.a.  It needs
-   memcpy and memset from the C library, and no heap:
+   memcpy and memset from the C library, at most 1,300 bytes of stack, and no
+   heap:
 
        cc -std=c99 -Iinclude gateway.c target/staticlib/libhost.a -o gateway
 
@@ -56,6 +57,11 @@
    asks for the version and announces the package; the device fetches it by
    fragments, one for each request, and says that it has it; the gateway orders
    the installation; the device's host installs the image; the device reports.
+
+   Each end is in a phase: the device in Idle, Loading, Loaded, Acked, Failed,
+   Installing or Reporting, the gateway in Ask, Offer, Serve, Run or Ended.  The
+   constants below say what each means.  A package's code is its check, against
+   which the device tests the whole image; 0: there is none.
 
    PCP messages may share a port with other traffic.  A message, offsets in
    bytes; two-byte fields are sent high byte first:
@@ -87,8 +93,9 @@
    - It lends each call the record, and the memory that goes with it, as the
      last call left them.  Between the calls nobody else writes them.
    - It sends the reply's first length bytes, and nothing if length is 0.
-   - It asks: at once when a call changed the record, otherwise by a timer.
-     Nothing moves on by itself.  See "When messages are lost".
+   - It asks: at once when a call changed the record (a gateway in Offer: after
+     a wait), otherwise by a timer.  Nothing moves on by itself.  See "When
+     messages are lost".
    - It looks at the phase after a call that gave 0 only: bytes that are no
      record may read like any phase.
 
@@ -114,8 +121,9 @@
    - It gives every build a version text of its own.  Two packages with the same
      version, size, number of fragments and code count as one: a device that
      holds half of one goes on with the other.
-   - It stops asking in Run when 23 was answered with 00, and waits at the two
-     places that "When messages are lost" names.
+   - It stops asking in Run when 23 was answered, drops some messages, waits at
+     two places, and follows a gateway that has not succeeded by a new one: see
+     "When messages are lost".
 
 
    Buffers
@@ -271,7 +279,8 @@
 
    In Loading, 2 may be left out after a stored fragment (image_length is not 0,
    the phase is still Loading), to spare the flash: what came since the last
-   save is fetched again.
+   save is fetched again.  It may not after an announcement, for the save before
+   may mark fragments of another download, which are then overwritten.
 
    Not covered: a record or map that is lent in storage itself, where a cut may
    leave half of what a call writes; storage that says too early that bytes are
@@ -642,13 +651,14 @@ enum {
                                        05: a fragment size with a smaller size
                                        times total.  09: a larger size */
     PCP_ENDING_DOWNLOAD_FAILED = 3, /* it reported a failed download: 07, the
-                                       image's check is not the code.  Has the
-                                       package changed?  It fetches all again */
+                                       image's check is not the code.  Did the
+                                       package change?  For a new gateway the
+                                       device fetches all again */
     PCP_ENDING_NOT_EXECUTED = 4,    /* an order to install was refused.  The
                                        device may install all the same, or have
                                        installed: it took another order, whose
-                                       answer was lost or came later.  The
-                                       version that a new gateway hears tells */
+                                       answer was lost or comes later.  A new
+                                       gateway asks it which version runs */
     PCP_ENDING_UPGRADE_FAILED = 5   /* it reported a failed installation (byte 8
                                        of the report is its code), or another
                                        version */
@@ -902,11 +912,15 @@ static inline uint8_t pcp_device_new(uint8_t *record, size_t record_length,
      ready, the version is not the running one, and image and map are long
      enough; if not, the reply says so, the number is 0 and nothing has changed.
      It resumes the download held, if that is the same, or replaces it.
-   - 21 stores a fragment; with the last that was missing, the image is tested.
-   - 22 and 24 are the gateway's answers to download result and report.
-   - 23 brings Loaded or Acked to Installing, and is answered 00 there again;
-     in all other phases it is answered 01.  The host that sees this phase after
-     a call with number 0 installs, see "What a host does".
+   - 21 stores a fragment; with the last that was missing, the image is tested:
+     Loaded, or Failed.
+   - 22 and 24 are the gateway's answers to download result and report: Acked,
+     and Idle.  80 in 21 or 22 says that there is no such upgrade: Idle, and the
+     download is given up.
+   - 23 brings Loaded or Acked to Installing, if the condition allows it, and is
+     answered 00 there again; in all other phases it is answered 01.  The host
+     that sees this phase after a call with number 0 installs, see "What a host
+     does".
    Numbers: 64, 15, 13, 29, 14, 1 to 8, 9, 10, 11, 12. */
 static inline pcp_answer pcp_device_receive(
     uint8_t *record, size_t record_length, int supported, int pcp,
@@ -986,7 +1000,10 @@ static inline uint8_t pcp_gateway_start(uint8_t *record, size_t record_length,
 
 /* A message arrived at the gateway.  The two facts are those of
    pcp_recognise_message.  A reply is for the device.  It is there on 21, 22 and
-   24, in every phase: one that the phase has no use for is answered 80.
+   24, in every phase: one that the phase has no use for is answered 80.  The
+   answer to 19 brings Ask to Offer, that to 20 Offer to Serve, 22 brings Serve
+   to Run, and 24 ends Run; or each of them, and the answer to 23, ends the
+   upgrade without success.
    Numbers: 64, 15, 29, 14, 1 to 8, 9. */
 static inline pcp_answer pcp_gateway_receive(
     uint8_t *record, size_t record_length, int supported, int pcp,
