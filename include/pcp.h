@@ -305,8 +305,10 @@
      version runs             back after the report: a new record.
 
    So an installation that restarts the device has to keep the record's bytes
-   alone.  Its new software reports PCP_INSTALLED when it runs, not the old one
-   before: a report cannot be taken back.
+   alone; if image and map are not kept, a new record is made when the report
+   was answered, and what can be relied on counts from there.  The new software
+   reports PCP_INSTALLED when it runs, not the old one before: a report cannot
+   be taken back.
 
    At the gateway.  Save record, and whether 23 was answered, in the same way,
    before the reply is sent; the package is lent again as it was.  If that is
@@ -541,7 +543,7 @@ enum {
                                      or there are only 4 to 7 bytes: damaged; if
                                      often, are messages cut or joined? */
     PCP_BAD_LENGTH = 7,           /* the check is right, and the length field is
-                                     not the length less 8: written so */
+                                     not the length less 8: a sender's fault */
     PCP_BAD_DATA = 8,             /* the data is not what this code carries
                                      toward this end; if often, are the ends
                                      exchanged? */
