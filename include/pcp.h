@@ -1,10 +1,11 @@
 /* pcp.h - both ends of a PCP software upgrade, for C99 and C++
 
-   PCP is the protocol by which a platform (the gateway) upgrades the software
-   of a device (the head).  This library is the protocol at both ends: it reads
-   what arrives, keeps the upgrade's state, and writes what is to be sent.  It
-   sends and receives nothing itself, knows no clock and allocates nothing: its
-   caller, the host, owns radio, timers and flash.
+   PCP is the protocol by which an IoT platform (here: the gateway) upgrades the
+   software of a device over a radio link.  This library is the protocol at both
+   ends: it reads what arrives, keeps the upgrade's state, and writes what is to
+   be sent.  It sends and receives nothing itself, knows no clock and allocates
+   nothing: its caller, the host, owns radio, timers and flash.  What a host has
+   to know is in this file.
 
    The functions to call:
 
@@ -25,13 +26,18 @@
        pcp_check_of_bytes           the check of any bytes
 
    and, to look into a record: pcp_device_phase, pcp_device_running,
-   pcp_device_total, pcp_device_stored, pcp_device_image_length,
+   pcp_device_target, pcp_device_size, pcp_device_total, pcp_device_code,
+   pcp_device_stored, pcp_device_image_length, pcp_device_map_length,
    pcp_gateway_phase, pcp_gateway_ending.
 
-   Building.  The library is one archive for x86-64 Linux, libhost.a, which
-   needs nothing but the C library:
+   Building.  The library is one archive for x86-64 Linux, libhost.a.  It needs
+   memcpy and memset from the C library, at most 1,300 bytes of stack, and no
+   heap:
 
        cc -std=c99 -Iinclude gateway.c target/staticlib/libhost.a -o gateway
+
+   Bytes are in hex (80), all other numbers are decimal.  "Asked" is a device or
+   gateway on which ..._next_message is called.
 
 
    An upgrade
@@ -49,8 +55,13 @@
    The gateway begins 19, 20 and 23, the device 21, 22 and 24; the other end's
    message of the same code is the reply.  In a run without losses the gateway
    asks for the version and announces the package; the device fetches it by
-   fragments and says that it has it; the gateway orders the installation; the
-   device's host installs the image; the device reports.
+   fragments, one for each request, and says that it has it; the gateway orders
+   the installation; the device's host installs the image; the device reports.
+
+   Each end is in a phase: the device in Idle, Loading, Loaded, Acked, Failed,
+   Installing or Reporting, the gateway in Ask, Offer, Serve, Run or Ended.  The
+   constants below say what each means.  A package's code is its check, against
+   which the device tests the whole image; 0: there is none.
 
    PCP messages may share a port with other traffic.  A message, offsets in
    bytes; two-byte fields are sent high byte first:
@@ -60,12 +71,59 @@
        3  code       13 to 18 hex (19 to 24)
        4  check      two bytes
        6  length     two bytes, the number of data bytes
-       8  data
+       8  data       most answers: one byte, 00 for yes
 
-   A message names neither sender nor receiver, and 22 with 00 is the same bytes
-   both ways.  So the host sees to it that a device is given only what its
-   gateway sent toward it, a gateway only what its device sent toward it, and
-   that a device has one gateway at a time.
+   A package has 1 to 65,535 fragments of 32 to 500 bytes each, the last one of
+   at least 1: up to 32,767,500 bytes.  A version is a text of 1 to 16 bytes
+   from 20 to 7E hex.
+
+
+   What a host does
+   ----------------
+
+   At both ends:
+
+   - It hands over whole messages, one in each call: the library does not cut a
+     stream into messages.
+   - It gives a device only what its gateway sent toward it, a gateway only what
+     its device sent toward it, and lets one gateway at a time work on a device.
+     A message names neither sender nor receiver nor direction (22 with 00 is
+     the same bytes both ways): an end that hears itself, or another pair, moves
+     on.
+   - It lends each call the record, and the memory that goes with it, as the
+     last call left them.  Between the calls nobody else writes them.
+   - It sends the reply's first length bytes, and nothing if length is 0.
+   - It asks: at once when a call changed the record (a gateway in Offer: after
+     a wait), otherwise by a timer.  Nothing moves on by itself.  See "When
+     messages are lost".
+   - It looks at the phase after a call that gave 0 only: bytes that are no
+     record may read like any phase.
+
+   At the device:
+
+   - It lends an image that takes byte writes at any place.  If the flash
+     cannot, lend RAM.
+   - It states in each call the condition that the device is in then.
+   - When a call gave 0 and the phase is PCP_DEVICE_INSTALLING, it installs the
+     image's first pcp_device_image_length bytes: once, however often 23
+     arrives, and only if the image has that many (past Acked no call compares a
+     damaged record with the image; if it has fewer, make a new record).  Then
+     it calls pcp_device_install_finished, and asks, so that the report is sent.
+   - If it matters who made a package, it tests that first, by a signature: who
+     can send can upgrade.
+   - The software in a package calls itself by the version announced: that is
+     what the record will say is running.
+
+   At the gateway:
+
+   - It has one record for each device and package, and keeps the package byte
+     for byte the same until it is done with this gateway.
+   - It gives every build a version text of its own.  Two packages with the same
+     version, size, number of fragments and code count as one: a device that
+     holds half of one goes on with the other.
+   - It stops asking in Run when 23 was answered, drops some messages, waits at
+     two places, and follows a gateway that has not succeeded by a new one: see
+     "When messages are lost".
 
 
    Buffers
@@ -74,24 +132,26 @@
    Records.  A record is the state of one end, in bytes that the host keeps from
    one call to the next: PCP_DEVICE_RECORD for a device, PCP_GATEWAY_RECORD for
    a gateway.  It holds no pointers: it may be put away and lent again later,
-   also by another process, but at either end only as the last call left it,
-   never an older copy.  A host that keeps an end over a restart saves it before
-   it sends what a call gave: a device that has answered 23, loses power and
-   comes back as it was before would install twice.  The layout is below.  Any
+   also by another process.  The layout is below; read it, never write it.  Any
    bytes may be lent: those that break a record's rules get PCP_BAD_RECORD, and
    none make a call do harm.
 
    Image and map are the device's memory for the package, lent to each of its
    calls.  The image takes the fragments, each at its place; it needs size times
    total bytes, which may be more than the package has.  The map has one bit for
-   each fragment, so total / 8 bytes, rounded up.  Longer buffers are welcome:
-   bytes behind are not touched.  Neither needs to be cleared: an announcement
-   that begins a download zeroes its part of the map, and of the image nothing
-   counts but what the map says is stored.  Record, image and map belong
-   together.  A host that keeps them over a restart, to resume the download,
-   must bring back all three as the last call left them; if it cannot be sure of
-   that, it makes a new record.  A gateway in Serve or Run then stands still, or
-   ends with PCP_ENDING_NOT_EXECUTED; a new one has to follow it, see below.
+   each fragment, so total / 8 bytes, rounded up; the image's length / 256,
+   rounded up, is enough for every size.  Longer buffers are welcome: bytes
+   behind are not touched.  Neither needs to be cleared: an announcement that
+   begins a download zeroes its part of the map, and of the image nothing counts
+   but what the map says is stored.  Record, image and map belong together in
+   Loading, Loaded and Acked; in the other phases the record alone counts, and
+   image and map may be any.
+
+   A new record (pcp_device_new) gives up a download, and is always a way on for
+   a device whose record, image and map are not for certain as the last call
+   left them.  The gateway at work learns nothing of it: in Serve it stands
+   still, in Run it does that or ends with PCP_ENDING_NOT_EXECUTED.  A new one
+   has to follow it.
 
    The package is lent to each of the gateway's calls, the same bytes each time.
    Its length is tested, its bytes are not.
@@ -120,11 +180,15 @@
    reply, if there is one, fills the front of its buffer; the rest stays.  No
    bytes that arrive, from wherever, lead to anything else.
 
-   1 to 12 are part of normal work: what arrived is of no use, or an end that
-   was asked has nothing to send (PCP_NO_USE).  Of these, 1 and 2 repeat what
-   the host states of the device, and 9 from pcp_device_install_finished says
-   that no installation is under way.  The higher numbers are mistakes of the
-   host, in what it lends or states.
+   1 to 12 are part of normal work: what arrived is of no use and is dropped, or
+   an end that was asked has nothing to send (PCP_NO_USE).  Of these, 1 and 2
+   repeat what the host states of the device, and 9 from
+   pcp_device_install_finished says that no installation is under way.  The
+   higher numbers are mistakes of the host, in what it lends or states: the same
+   call again gets the same number.
+
+   A number is not a result.  Number 0 with a reply whose byte 8 is 01 is a
+   message that was handled, and answered no.
 
 
    When messages are lost
@@ -133,9 +197,9 @@
    Messages may be lost, repeated, delayed and overtaken by others.  The library
    bears all of it, and the host sees to it that the upgrade goes on:
 
-   - Asking (..._next_message) changes nothing.  If nothing comes, ask and send
-     again.  Ask at once after a call that changed the record (in Offer after a
-     wait, see below), otherwise by a timer; a host that asks after every
+   - Asking changes nothing and gives the same bytes again.  Ask at once after a
+     call that changed the record (the answer says so), otherwise by a timer
+     that is longer than the way there and back.  A host that asks after every
      arrival makes two of each message once one was repeated.
    - A gateway in Run stops asking when the device's answer to 23 has arrived
      (code 23, number 0).  A device that has already installed refuses to do it
@@ -144,20 +208,23 @@
      and the device drops what it has stored.  To keep that for a resume, drop
      such messages (byte 3 is the code): the device asks again.  But a gateway
      that ended with PCP_ENDING_DOWNLOAD_FAILED is given 22: a device in Failed
-     repeats it until it is answered.
+     repeats it until it is answered.  24 is never dropped: any answer lets a
+     device get out of Reporting, also that of a gateway that ended.
    - A gateway that ended with neither PCP_ENDING_SUCCESS nor
-     PCP_ENDING_ALREADY_RUNNING, or that stands still, is followed by a new one
-     on the same package: pcp_gateway_start.  Wait first until nothing that was
-     sent before can still arrive, and as long again in Offer before asking:
-     what the device sent while the new one was in Ask, late, would count for
-     the new upgrade.  The device resumes its download if version, size, total
-     and code are those that it holds, and the code is not 0.
-   - If the new gateway then stands still in Serve, and the device asks for
-     nothing, the device may be in Acked: it has all, and has said so to an
-     earlier gateway.  Start with another fragment size, or without a code, for
-     that is no resume; the device downloads again and says so again.
-   - A gateway that ended goes on answering, so that a device whose report was
-     answered, but did not hear it, gets out of Reporting.
+     PCP_ENDING_ALREADY_RUNNING, or that stands still (nothing was handled for
+     longer than the longest installation), is followed by a new one on the same
+     package: pcp_gateway_start.  The device resumes its download if version,
+     size, total and code are those that it holds, and the code is not 0.
+   - The two waits.  Before a new gateway starts, wait until nothing that was
+     sent before, in either direction, can still arrive.  And as long again when
+     it has come to Offer, before it is asked: what the device sent while it was
+     in Ask, late, would count for the new upgrade.  21 and 22 are dropped
+     meanwhile, as said.
+   - If a new gateway stands still in Serve, and the device asks for nothing,
+     the device may be in Acked: it has all, and has said so to an earlier
+     gateway.  Start with another fragment size (that fits image and map), or
+     without a code, for that is no resume; the device downloads again and says
+     so again.  Without a code the image is not tested.
 
    What can be relied on.  Let both ends use this library, let nothing reach
    either but what the other sent after the gateway came to Offer, undamaged,
@@ -166,36 +233,145 @@
    begins with the gateway's package; and when the gateway ends with
    PCP_ENDING_SUCCESS, this installation was reported finished with 00.  What
    the device had stored before, under an announcement of the same version,
-   size, total and code, must be the same package's, undamaged; to tell packages
-   of one version apart is what the code is for.  Damage on the way is found by
-   the messages' 16-bit check: most of it, not all.  The package's code is the
-   same check, so what the one does not see, the other may not see either.
-   Neither protects against forgery.
+   size, total and code, must be the same package's, undamaged.  This is proved.
+
+   What cannot.  Damage on the way is found by the messages' 16-bit check: most
+   of it, not all (two neighbouring bytes xored with 0A and C3 always pass).
+   The package's code is the same check, so what the one does not see, the other
+   may not see either: put a hash of your own into the package.  A package
+   without a code (checked 0, or its check happens to be 0) is not tested by the
+   device, and never resumed.  Nothing here protects against forgery.  Nothing
+   is promised of time: the call that stores the last missing fragment runs over
+   the whole image.  Nor that an upgrade ends: losses are the hosts' matter.
+
+
+   Saving, and coming back after a restart
+   ---------------------------------------
+
+   A host that keeps an end over a restart saves it after each call that changed
+   the record (so does pcp_device_install_finished, if it gives 0), before it
+   sends the reply, asks, or begins the installer: a device that has answered
+   23, loses power and comes back as it was before would install twice.  A call
+   of which nothing was saved, sent or begun counts as not made; so after a
+   pulled battery the end is as it was before the call, or after it.  An older
+   copy than the last save is never lent.
+
+   At the device.  Lend record and map in RAM.  Storage holds the image, and two
+   slots for record and map, each with a counter and a check over all of it (a
+   CRC-32, say).  After a call that gave 0 and changed the record:
+
+     1. Write the bytes of the image that the call wrote (image_at and
+        image_length of the answer), if the image itself is not in storage.
+     2. When they are there: write the counter plus 1, the record, the map's
+        first pcp_device_map_length bytes and the check to the slot that does
+        not hold the last save.
+     3. When that is there: send, ask, install.
+
+   After a restart, take the slot whose check is right; of two, the one with the
+   higher counter; if there is none, make a new record.  Where power can go:
+
+     in the call, or in 1     The last save.  The image may have a part of a
+                              fragment that this map does not mark: it counts
+                              for nothing, and is asked for again.
+     in 2                     The same.  The torn slot's check tells it.
+     after 2                  The new save.  If the reply was not sent, it
+                              counts as lost: the gateway sends again.
+
+   In Loading, 2 may be left out after a stored fragment (image_length is not 0,
+   the phase is still Loading), to spare the flash: what came since the last
+   save is fetched again.  It may not after an announcement, for the save before
+   may mark fragments of another download, which are then overwritten.
+
+   Not covered: a record or map that is lent in storage itself, where a cut may
+   leave half of what a call writes; storage that says too early that bytes are
+   there, or loses them later (the image is tested once, against the package's
+   code, when the last fragment is stored); and the installer's own work.  What
+   is proved is proved of runs without cuts.
+
+   After a restart the host knows which version runs.  By the phase saved:
+
+     Installing               The target runs: call pcp_device_install_finished
+                              with PCP_INSTALLED, save, ask.  Another runs: the
+                              installer was not begun, was cut off, or failed.
+                              If it may begin again and the image is still whole
+                              (pcp_device_image_length bytes; by a hash, or its
+                              check is pcp_device_code, if that is not 0), begin
+                              it, as if the phase had just been seen; but count,
+                              for a package that never starts would be installed
+                              for ever.  If not: PCP_INSTALL_FAILED, save, ask.
+     any other, and the       Go on; in Loading, Loaded and Acked with image and
+     running version runs     map.  A report is sent until it is answered.
+     any other, and another   Somebody else changed the software, or it fell
+     version runs             back after the report: a new record.
+
+   So an installation that restarts the device has to keep the record's bytes
+   alone; if image and map are not kept, a new record is made when the report
+   was answered, and what can be relied on counts from there.  The new software
+   reports PCP_INSTALLED when it runs, not the old one before: a report cannot
+   be taken back.
+
+   At the gateway.  Save record, and whether 23 was answered, in the same way,
+   before the reply is sent; the package is lent again as it was.  If that is
+   not certain: a new gateway, after the wait.
 
 
    Example: a device
    -----------------
 
+   The functions that are called and not defined here are the host's own; so are
+   IMAGE and SLOTS, places in flash, and RETRY, a time longer than the way there
+   and back.
+
        #include "pcp.h"
+       #include <string.h>
 
-       static uint8_t record[PCP_DEVICE_RECORD]; // made by pcp_device_new
-       static uint8_t image[65536], map[65536 / 32 / 8];
+       struct slot { // record and map, as they are saved
+           uint32_t counter;
+           uint8_t record[PCP_DEVICE_RECORD], map[65536 / 32 / 8];
+           uint32_t check;
+       };
 
-       void on_receive(const uint8_t *bytes, size_t length)
+       static uint8_t record[PCP_DEVICE_RECORD], image[65536];
+       static uint8_t map[65536 / 32 / 8];
+       static struct slot last; // the last save
+       static int begun;        // the installer is at work
+
+       // Image bytes first, then record and map to the slot of the save before
+       // the last.  flash_write returns when the bytes are there.
+       static void save(uint32_t image_at, uint32_t image_length)
        {
-           uint8_t reply[PCP_DEVICE_REPLY];
-           pcp_answer answer = pcp_device_receive(
-               record, sizeof record, 1, 1, PCP_READY, bytes, length, image,
-               sizeof image, map, sizeof map, reply, sizeof reply);
+           flash_write(IMAGE + image_at, image + image_at, image_length);
+           if (image_length > 0 &&
+               pcp_device_phase(record) == PCP_DEVICE_LOADING &&
+               pcp_device_stored(record) % 16 != 0)
+               return; // at most 16 fragments are fetched again
+           last.counter++;
+           memcpy(last.record, record, sizeof record);
+           memcpy(last.map, map, sizeof map);
+           last.check = crc32(&last, offsetof(struct slot, check));
+           flash_write(SLOTS + last.counter % 2 * sizeof last, &last,
+                       sizeof last);
+       }
 
-           if (answer.number != PCP_HANDLED)
-               return; // without a look at the phase: the record may be none
-           save(); // record, image and map, if they are kept over a restart
-           if (answer.length > 0)
-               radio_send(reply, answer.length);
-           if (pcp_device_phase(record) == PCP_DEVICE_INSTALLING &&
-               pcp_device_image_length(record) <= sizeof image)
-               install_once(image, pcp_device_image_length(record));
+       static int restored(void)
+       {
+           struct slot slot;
+           int found = 0;
+
+           for (size_t i = 0; i < 2; i++) {
+               flash_read(SLOTS + i * sizeof slot, &slot, sizeof slot);
+               if (slot.check == crc32(&slot, offsetof(struct slot, check)) &&
+                   (!found || slot.counter > last.counter)) {
+                   last = slot;
+                   found = 1;
+               }
+           }
+           if (found) {
+               memcpy(record, last.record, sizeof record);
+               memcpy(map, last.map, sizeof map);
+               flash_read(IMAGE, image, sizeof image);
+           }
+           return found;
        }
 
        void on_timer(void)
@@ -207,63 +383,85 @@
 
            if (answer.length > 0)
                radio_send(reply, answer.length);
+           set_timer(RETRY);
        }
 
-       void on_installed(int succeeded)
+       void on_installed(int code) // PCP_INSTALLED, or why not
        {
-           pcp_device_install_finished(
-               record, sizeof record,
-               succeeded ? PCP_INSTALLED : PCP_INSTALL_FAILED);
-           save();
+           begun = 0;
+           if (pcp_device_install_finished(record, sizeof record, code) != 0)
+               return;
+           save(0, 0);
+           on_timer(); // sends the report
+       }
+
+       static void install(void)
+       {
+           uint32_t length = pcp_device_image_length(record);
+
+           if (begun || length > sizeof image)
+               return; // longer: the record is damaged
+           begun = 1;
+           begin_installer(image, length); // on_installed follows
+       }
+
+       void on_receive(const uint8_t *bytes, size_t length)
+       {
+           uint8_t reply[PCP_DEVICE_REPLY];
+           pcp_answer answer = pcp_device_receive(
+               record, sizeof record, 1, 1, condition_now(), bytes, length,
+               image, sizeof image, map, sizeof map, reply, sizeof reply);
+
+           if (answer.number != PCP_HANDLED)
+               return;
+           if (answer.changed)
+               save(answer.image_at, answer.image_length);
+           if (answer.length > 0)
+               radio_send(reply, answer.length);
+           if (pcp_device_phase(record) == PCP_DEVICE_INSTALLING)
+               install();
+           else if (answer.changed)
+               on_timer();
+       }
+
+       // version is the one that runs, 16 bytes, filled up with 00.
+       void on_power_up(const uint8_t *version)
+       {
+           int found = restored();
+
+           begun = 0;
+           set_timer(RETRY);
+           if (found && pcp_device_phase(record) == PCP_DEVICE_INSTALLING) {
+               if (memcmp(pcp_device_target(record), version, 16) == 0)
+                   on_installed(PCP_INSTALLED);
+               else if (may_begin_again() && image_is_whole())
+                   install();
+               else
+                   on_installed(PCP_INSTALL_FAILED);
+           } else if (!found ||
+                      memcmp(pcp_device_running(record), version, 16) != 0) {
+               pcp_device_new(record, sizeof record, version, 16);
+               save(0, 0);
+           }
        }
 
    Example: a gateway
    ------------------
+
+   QUIET is the wait of "When messages are lost".
 
        #include "pcp.h"
 
        static uint8_t record[PCP_GATEWAY_RECORD];
        static int executing; // the device has answered 23
 
+       // After the first wait, if another gateway went before.
        uint8_t begin(const uint8_t *package, size_t package_length)
        {
            executing = 0;
+           set_timer(0);
            return pcp_gateway_start(record, sizeof record, "V2.0", 4, 500,
                                     package, package_length, 1);
-       }
-
-       static int wanted(uint8_t code, uint8_t phase)
-       {
-           if (code != PCP_FRAGMENT && code != PCP_DOWNLOAD_RESULT)
-               return 1;
-           return phase == PCP_GATEWAY_SERVE || phase == PCP_GATEWAY_RUN ||
-                  (code == PCP_DOWNLOAD_RESULT &&
-                   pcp_gateway_ending(record) == PCP_ENDING_DOWNLOAD_FAILED);
-       }
-
-       void on_receive(const uint8_t *bytes, size_t length,
-                       const uint8_t *package, size_t package_length)
-       {
-           uint8_t reply[PCP_GATEWAY_REPLY], phase = pcp_gateway_phase(record);
-           pcp_answer answer;
-
-           if (length < 4 || !wanted(bytes[3], phase))
-               return;
-           answer = pcp_gateway_receive(record, sizeof record, 1, 1, bytes,
-                                        length, package, package_length, reply,
-                                        sizeof reply);
-           if (answer.number != PCP_HANDLED)
-               return;
-           if (bytes[3] == PCP_EXECUTE)
-               executing = 1;
-           save(); // record and executing, if they are kept over a restart
-           if (answer.length > 0)
-               radio_send(reply, answer.length);
-           if (pcp_gateway_phase(record) == phase)
-               return;
-           restart_timer(); // longer than the way there and back
-           if (pcp_gateway_phase(record) == PCP_GATEWAY_ENDED)
-               upgrade_ended(pcp_gateway_ending(record));
        }
 
        void on_timer(const uint8_t *package, size_t package_length)
@@ -278,6 +476,44 @@
                                              sizeof reply);
            if (answer.length > 0)
                radio_send(reply, answer.length);
+           set_timer(RETRY);
+       }
+
+       static int wanted(uint8_t code, uint8_t phase)
+       {
+           if (code != PCP_FRAGMENT && code != PCP_DOWNLOAD_RESULT)
+               return 1;
+           return phase == PCP_GATEWAY_SERVE || phase == PCP_GATEWAY_RUN ||
+                  (code == PCP_DOWNLOAD_RESULT &&
+                   pcp_gateway_ending(record) == PCP_ENDING_DOWNLOAD_FAILED);
+       }
+
+       void on_receive(const uint8_t *bytes, size_t length,
+                       const uint8_t *package, size_t package_length)
+       {
+           uint8_t reply[PCP_GATEWAY_REPLY];
+           pcp_answer answer;
+
+           if (length < 4 || !wanted(bytes[3], pcp_gateway_phase(record)))
+               return;
+           answer = pcp_gateway_receive(record, sizeof record, 1, 1, bytes,
+                                        length, package, package_length, reply,
+                                        sizeof reply);
+           if (answer.number != PCP_HANDLED)
+               return;
+           if (bytes[3] == PCP_EXECUTE)
+               executing = 1;
+           save(); // record and executing, if they are kept over a restart
+           if (answer.length > 0)
+               radio_send(reply, answer.length);
+           if (!answer.changed)
+               return;
+           if (pcp_gateway_phase(record) == PCP_GATEWAY_ENDED)
+               upgrade_ended(pcp_gateway_ending(record));
+           else if (pcp_gateway_phase(record) == PCP_GATEWAY_OFFER)
+               set_timer(QUIET);
+           else
+               on_timer(package, package_length);
        }
 */
 #ifndef PCP_H
@@ -285,6 +521,7 @@
 
 #include <stddef.h>
 #include <stdint.h>
+#include <string.h>
 
 #ifdef __cplusplus
 extern "C" {
@@ -298,17 +535,21 @@ enum {
     PCP_UNSUPPORTED = 1,          /* the device does not support software
                                      upgrade */
     PCP_OTHER_PROTOCOL = 2,       /* it is upgraded by another protocol */
-    PCP_BAD_START = 3,            /* bytes 0 and 1 are not FF FE */
+    PCP_BAD_START = 3,            /* bytes 0 and 1 are not FF FE: other traffic
+                                     of this port */
     PCP_BAD_VERSION = 4,          /* byte 2 is not 01 */
     PCP_BAD_CODE = 5,             /* byte 3 is not one of 19 to 24 */
     PCP_BAD_CHECK = 6,            /* the check field is not the message's check,
-                                     or there are only 4 to 7 bytes */
-    PCP_BAD_LENGTH = 7,           /* the length field is not the length less
-                                     8 */
+                                     or there are only 4 to 7 bytes: damaged; if
+                                     often, are messages cut or joined? */
+    PCP_BAD_LENGTH = 7,           /* the check is right, and the length field is
+                                     not the length less 8: a sender's fault */
     PCP_BAD_DATA = 8,             /* the data is not what this code carries
-                                     toward this end */
+                                     toward this end; if often, are the ends
+                                     exchanged? */
     PCP_NO_USE = 9,               /* this phase has no use for the message or
-                                     the call; asked: nothing to send */
+                                     the call: late, or repeated; asked: nothing
+                                     to send */
     PCP_BAD_INDEX = 10,           /* no fragment of the download held */
     PCP_BAD_FRAGMENT_LENGTH = 11, /* not size long (the last: longer) */
     PCP_ALREADY_STORED = 12,      /* this fragment is there already */
@@ -316,7 +557,8 @@ enum {
     PCP_BAD_MEMORY = 14,          /* device, in Loading, Loaded and Acked: image
                                      or map shorter than the download needs;
                                      gateway: package length is not the one at
-                                     the start */
+                                     the start.  Lend what was lent before, or
+                                     make a new record */
     PCP_SHORT_REPLY = 15,         /* reply buffer below PCP_DEVICE_REPLY or
                                      PCP_GATEWAY_REPLY */
     PCP_BAD_INSTALL_CODE = 16,    /* none of the installer's codes below */
@@ -326,7 +568,8 @@ enum {
                                      fragments */
     PCP_BAD_RECORD = 29,          /* the record breaks its rules, see below; or
                                      a device in Loading is asked, and its map
-                                     has no fragment missing */
+                                     has no fragment missing.  Make a new one,
+                                     and look for who wrote there */
     PCP_SHORT_RECORD = 64         /* record buffer below PCP_DEVICE_RECORD or
                                      PCP_GATEWAY_RECORD */
 };
@@ -366,7 +609,10 @@ enum {
 /* The conditions of a device, as its host states them in each call.  One that
    is not PCP_READY is the answer to an announcement.  Busy and low power are
    also the answer to the order to install; an internal error is answered as
-   busy there, and a weak signal is no obstacle. */
+   busy there, and a weak signal is no obstacle.  A device in Installing or
+   Reporting is busy for announcements, whatever is stated.  The other answers
+   that refuse an announcement: 03, this version runs; 05, the image is too
+   short; 09, the map is too short. */
 enum {
     PCP_READY = 0,
     PCP_BUSY = 1,
@@ -377,13 +623,14 @@ enum {
 
 /* The codes with which an installer can end. */
 enum {
-    PCP_INSTALLED = 0x00,
-    PCP_INSTALL_BUSY = 0x01,
-    PCP_INSTALL_LOW_POWER = 0x04,
-    PCP_INSTALL_NO_SPACE = 0x05,
-    PCP_INSTALL_NO_MEMORY = 0x09,
-    PCP_INSTALL_FAILED = 0x0A,
-    PCP_INSTALL_INTERNAL_ERROR = 0x7F
+    PCP_INSTALLED = 0x00,              /* the new version runs */
+    PCP_INSTALL_BUSY = 0x01,           /* the device was busy */
+    PCP_INSTALL_LOW_POWER = 0x04,      /* the battery is too low */
+    PCP_INSTALL_NO_SPACE = 0x05,       /* no room for the software */
+    PCP_INSTALL_NO_MEMORY = 0x09,      /* not enough working memory */
+    PCP_INSTALL_FAILED = 0x0A,         /* it failed, or the package is not
+                                          genuine */
+    PCP_INSTALL_INTERNAL_ERROR = 0x7F  /* anything else */
 };
 
 /* The phases of a gateway. */
@@ -395,15 +642,28 @@ enum {
     PCP_GATEWAY_ENDED = 4  /* see the ending number */
 };
 
-/* The ending numbers of a gateway; 0 also before the end. */
+/* The ending numbers of a gateway; 0 also before the end, so look at the phase
+   first.  They say what the device answered, which may be older than what it
+   does now. */
 enum {
     PCP_ENDING_SUCCESS = 0,         /* the device reported 00 and the target */
     PCP_ENDING_ALREADY_RUNNING = 1, /* the target ran before the offer */
-    PCP_ENDING_NOT_ACCEPTED = 2,    /* the device refused the announcement */
-    PCP_ENDING_DOWNLOAD_FAILED = 3, /* it reported a failed download */
-    PCP_ENDING_NOT_EXECUTED = 4,    /* it refused the order to install */
-    PCP_ENDING_UPGRADE_FAILED = 5   /* it reported a failed installation, or
-                                       another version */
+    PCP_ENDING_NOT_ACCEPTED = 2,    /* it refused the announcement; byte 8 of
+                                       its answer says why.  A condition: later.
+                                       05: a fragment size with a smaller size
+                                       times total.  09: a larger size */
+    PCP_ENDING_DOWNLOAD_FAILED = 3, /* it reported a failed download: 07, the
+                                       image's check is not the code.  Did the
+                                       package change?  For a new gateway the
+                                       device fetches all again */
+    PCP_ENDING_NOT_EXECUTED = 4,    /* an order to install was refused.  The
+                                       device may install all the same, or have
+                                       installed: it took another order, whose
+                                       answer was lost or comes later.  A new
+                                       gateway asks it which version runs */
+    PCP_ENDING_UPGRADE_FAILED = 5   /* it reported a failed installation (byte 8
+                                       of the report is its code), or another
+                                       version */
 };
 
 /* The record of a device, offsets in bytes; numbers stand high byte first:
@@ -434,10 +694,16 @@ enum {
    number, a version text, a size from 32 to 500, a length of 1 to 65,535
    fragments. */
 
-/* What calls with a reply give. */
+/* What calls with a reply give.  Image bytes are written by pcp_device_receive
+   alone: those of a fragment that it stored. */
 typedef struct {
-    uint8_t number;  /* 0, or why the call was refused */
-    uint16_t length; /* of the reply; 0 if there is none */
+    uint8_t number;        /* 0, or why the call was refused */
+    uint8_t changed;       /* 1: the record is another than before: save, and
+                              ask at once; 0: image and map did not change
+                              either */
+    uint16_t length;       /* of the reply; 0 if there is none */
+    uint16_t image_length; /* how many bytes of the image were written, */
+    uint32_t image_at;     /* from this place on */
 } pcp_answer;
 
 /* The archive's own symbols.  Call the functions below instead: these must not
@@ -478,6 +744,82 @@ uint32_t pcp_raw_gateway_next_message(const uint8_t *record,
                                       size_t package_length, uint8_t *reply,
                                       size_t reply_length);
 
+/* Looking into a record, of PCP_DEVICE_RECORD or PCP_GATEWAY_RECORD bytes.
+   Nothing is tested here: look after a call that gave 0. */
+
+static inline uint8_t pcp_device_phase(const uint8_t *record)
+{
+    return record[0];
+}
+
+/* The running version and the target: 16 bytes, the text filled up with 00.  A
+   text of 16 bytes has no 00 behind it. */
+static inline const uint8_t *pcp_device_running(const uint8_t *record)
+{
+    return record + 1;
+}
+
+static inline const uint8_t *pcp_device_target(const uint8_t *record)
+{
+    return record + 17;
+}
+
+/* Two bytes, high byte first.  Used by the functions below only. */
+static inline uint16_t pcp_word(const uint8_t *bytes)
+{
+    return (uint16_t)(bytes[0] * 256 + bytes[1]);
+}
+
+/* Of the download held: the fragment size, the number of fragments, the
+   package's check code (0: it has none), and how many fragments are stored. */
+static inline uint16_t pcp_device_size(const uint8_t *record)
+{
+    return pcp_word(record + 33);
+}
+
+static inline uint16_t pcp_device_total(const uint8_t *record)
+{
+    return pcp_word(record + 35);
+}
+
+static inline uint16_t pcp_device_code(const uint8_t *record)
+{
+    return pcp_word(record + 37);
+}
+
+static inline uint16_t pcp_device_stored(const uint8_t *record)
+{
+    return pcp_word(record + 39);
+}
+
+/* How many of the image's first bytes are the package, once all fragments are
+   stored (Loaded, Acked, Failed, Installing, Reporting).  The value is only as
+   good as the record.  In Loaded and Acked the calls see that the image has
+   that many (PCP_BAD_MEMORY), later they do not: compare before you use it. */
+static inline uint32_t pcp_device_image_length(const uint8_t *record)
+{
+    uint32_t size = pcp_device_size(record), total = pcp_device_total(record);
+    uint32_t last = pcp_word(record + 41);
+
+    return total == 0 ? 0 : size * (total - 1) + last;
+}
+
+/* How many of the map's first bytes the download uses. */
+static inline uint16_t pcp_device_map_length(const uint8_t *record)
+{
+    return (uint16_t)((pcp_device_total(record) + 7) / 8);
+}
+
+static inline uint8_t pcp_gateway_phase(const uint8_t *record)
+{
+    return record[0];
+}
+
+static inline uint8_t pcp_gateway_ending(const uint8_t *record)
+{
+    return record[1];
+}
+
 /* Pointers that the archive may be given: never NULL where there are no bytes.
    Used by the functions below only. */
 static inline const uint8_t *pcp_not_null(const uint8_t *bytes, size_t length)
@@ -513,12 +855,15 @@ static inline pcp_answer pcp_answer_of(uint32_t raw)
     pcp_answer answer;
 
     answer.number = (uint8_t)(raw % 256);
+    answer.changed = 0;
     answer.length = (uint16_t)(raw / 256);
+    answer.image_length = 0;
+    answer.image_at = 0;
     return answer;
 }
 
 /* The check of these bytes, all as they stand; 0 if there are none.  It is the
-   check that PCP's published messages carry, and not that of any usual CRC-16. */
+   check that PCP's published messages carry, and not that of a usual CRC-16. */
 static inline uint16_t pcp_check_of_bytes(const uint8_t *bytes, size_t length)
 {
     return pcp_check(pcp_not_null(bytes, length), length);
@@ -569,12 +914,15 @@ static inline uint8_t pcp_device_new(uint8_t *record, size_t record_length,
      ready, the version is not the running one, and image and map are long
      enough; if not, the reply says so, the number is 0 and nothing has changed.
      It resumes the download held, if that is the same, or replaces it.
-   - 21 stores a fragment; with the last that was missing, the image is tested.
-   - 22 and 24 are the gateway's answers to download result and report.
-   - 23 brings Loaded or Acked to Installing.  The host that sees this phase
-     after a call with number 0 installs the image's first
-     pcp_device_image_length bytes, once, if it has that many, and then calls
-     pcp_device_install_finished.
+   - 21 stores a fragment; with the last that was missing, the image is tested:
+     Loaded, or Failed.
+   - 22 and 24 are the gateway's answers to download result and report: Acked,
+     and Idle.  80 in 21 or 22 says that there is no such upgrade: Idle, and the
+     download is given up.
+   - 23 brings Loaded or Acked to Installing, if the condition allows it, and is
+     answered 00 there again; in all other phases it is answered 01.  The host
+     that sees this phase after a call with number 0 installs, see "What a host
+     does".
    Numbers: 64, 15, 13, 29, 14, 1 to 8, 9, 10, 11, 12. */
 static inline pcp_answer pcp_device_receive(
     uint8_t *record, size_t record_length, int supported, int pcp,
@@ -582,13 +930,27 @@ static inline pcp_answer pcp_device_receive(
     uint8_t *image, size_t image_length, uint8_t *map, size_t map_length,
     uint8_t *reply, size_t reply_length)
 {
-    return pcp_answer_of(pcp_raw_device_receive(
+    uint8_t before[PCP_DEVICE_RECORD] = {0};
+    pcp_answer answer;
+
+    if (record_length >= sizeof before)
+        memcpy(before, record, sizeof before);
+    answer = pcp_answer_of(pcp_raw_device_receive(
         pcp_not_null_buffer(record, record_length), record_length,
         supported != 0, pcp != 0, pcp_byte_or_bad(condition),
         pcp_not_null(message, message_length), message_length,
         pcp_not_null_buffer(image, image_length), image_length,
         pcp_not_null_buffer(map, map_length), map_length,
         pcp_not_null_buffer(reply, reply_length), reply_length));
+    if (answer.number != PCP_HANDLED)
+        return answer;
+    answer.changed = memcmp(before, record, sizeof before) != 0;
+    if (message[3] == PCP_FRAGMENT && message[8] == 0x00) { /* was stored */
+        answer.image_length = (uint16_t)(message_length - 11);
+        answer.image_at =
+            (uint32_t)pcp_word(message + 9) * pcp_device_size(record);
+    }
+    return answer;
 }
 
 /* What the device has to send: in Loading, 21 for the lowest fragment that is
@@ -640,18 +1002,29 @@ static inline uint8_t pcp_gateway_start(uint8_t *record, size_t record_length,
 
 /* A message arrived at the gateway.  The two facts are those of
    pcp_recognise_message.  A reply is for the device.  It is there on 21, 22 and
-   24, in every phase: one that the phase has no use for is answered 80.
+   24, in every phase: one that the phase has no use for is answered 80.  The
+   answer to 19 brings Ask to Offer, that to 20 Offer to Serve, 22 brings Serve
+   to Run, and 24 ends Run; or each of them, and the answer to 23, ends the
+   upgrade without success.
    Numbers: 64, 15, 29, 14, 1 to 8, 9. */
 static inline pcp_answer pcp_gateway_receive(
     uint8_t *record, size_t record_length, int supported, int pcp,
     const uint8_t *message, size_t message_length, const uint8_t *package,
     size_t package_length, uint8_t *reply, size_t reply_length)
 {
-    return pcp_answer_of(pcp_raw_gateway_receive(
+    uint8_t before[PCP_GATEWAY_RECORD] = {0};
+    pcp_answer answer;
+
+    if (record_length >= sizeof before)
+        memcpy(before, record, sizeof before);
+    answer = pcp_answer_of(pcp_raw_gateway_receive(
         pcp_not_null_buffer(record, record_length), record_length,
         supported != 0, pcp != 0, pcp_not_null(message, message_length),
         message_length, pcp_not_null(package, package_length), package_length,
         pcp_not_null_buffer(reply, reply_length), reply_length));
+    if (answer.number == PCP_HANDLED)
+        answer.changed = memcmp(before, record, sizeof before) != 0;
+    return answer;
 }
 
 /* What the gateway has to send: 19 in Ask, 20 in Offer, 23 in Run; otherwise
@@ -666,60 +1039,6 @@ static inline pcp_answer pcp_gateway_next_message(
         pcp_not_null(record, record_length), record_length,
         pcp_not_null(package, package_length), package_length,
         pcp_not_null_buffer(reply, reply_length), reply_length));
-}
-
-/* Looking into a record, of PCP_DEVICE_RECORD or PCP_GATEWAY_RECORD bytes.
-   Nothing is tested here: look after a call that gave 0. */
-
-static inline uint8_t pcp_device_phase(const uint8_t *record)
-{
-    return record[0];
-}
-
-/* The running version: 16 bytes, the text filled up with 00.  A text of 16
-   bytes has no 00 behind it. */
-static inline const uint8_t *pcp_device_running(const uint8_t *record)
-{
-    return record + 1;
-}
-
-/* Two bytes, high byte first.  Used by the functions below only. */
-static inline uint16_t pcp_word(const uint8_t *bytes)
-{
-    return (uint16_t)(bytes[0] * 256 + bytes[1]);
-}
-
-/* The number of fragments of the download held, and how many are stored. */
-static inline uint16_t pcp_device_total(const uint8_t *record)
-{
-    return pcp_word(record + 35);
-}
-
-static inline uint16_t pcp_device_stored(const uint8_t *record)
-{
-    return pcp_word(record + 39);
-}
-
-/* How many of the image's first bytes are the package, once all fragments are
-   stored (Loaded, Acked, Failed, Installing, Reporting).  The value is only as
-   good as the record.  In Loaded and Acked the calls see that the image has
-   that many (PCP_BAD_MEMORY), later they do not: compare before you use it. */
-static inline uint32_t pcp_device_image_length(const uint8_t *record)
-{
-    uint32_t size = pcp_word(record + 33), total = pcp_device_total(record);
-    uint32_t last = pcp_word(record + 41);
-
-    return total == 0 ? 0 : size * (total - 1) + last;
-}
-
-static inline uint8_t pcp_gateway_phase(const uint8_t *record)
-{
-    return record[0];
-}
-
-static inline uint8_t pcp_gateway_ending(const uint8_t *record)
-{
-    return record[1];
 }
 
 #ifdef __cplusplus

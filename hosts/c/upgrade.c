@@ -191,25 +191,18 @@ static uint8_t device_condition(struct device *device)
     return once_in(&device->random, BUSY) ? PCP_BUSY : PCP_READY;
 }
 
-static bool device_changed(const struct device *device, const uint8_t *before)
-{
-    return memcmp(before, device->record, sizeof device->record) != 0;
-}
-
 /* For the account.  An offer that was accepted and changed nothing is a
    resume. */
-static void device_count(struct device *device, const uint8_t *before,
-                         const struct message *message, pcp_answer answer,
-                         const uint8_t *reply)
+static void device_count(struct device *device, const struct message *message,
+                         pcp_answer answer, const uint8_t *reply)
 {
     bool accepted = answer.length > 8 && reply[8] == 0x00;
 
-    if (pcp_device_stored(device->record) > pcp_device_stored(before))
+    if (answer.image_length > 0)
         device->stored++;
     if (answer.number == PCP_ALREADY_STORED)
         device->repeated++;
-    if (code_of(message) == PCP_ANNOUNCE && accepted &&
-        !device_changed(device, before))
+    if (code_of(message) == PCP_ANNOUNCE && accepted && !answer.changed)
         device->resumes++;
 }
 
@@ -228,27 +221,25 @@ static void device_install(struct device *device, unsigned long now)
 }
 
 /* The phase is looked at only when the number is 0: a record that was refused
-   may be none.  A device that is to go on after a restart would save record,
-   image and map before it sends the reply.  Only a changed record is a reason
-   to ask at once: a host that asked after every arrival would double all that
-   follows a repeated message. */
+   may be none.  A device that is to go on after a restart would save, if the
+   record has changed, before it sends the reply; pcp.h has an example of that.
+   Only a changed record is a reason to ask at once: a host that asked after
+   every arrival would double all that follows a repeated message. */
 static void device_receive(struct device *device, struct link *link,
                            unsigned long now, const struct message *message)
 {
-    uint8_t before[PCP_DEVICE_RECORD], reply[PCP_DEVICE_REPLY];
-    pcp_answer answer;
-
-    memcpy(before, device->record, sizeof before);
-    answer = pcp_device_receive(
+    uint8_t reply[PCP_DEVICE_REPLY];
+    pcp_answer answer = pcp_device_receive(
         device->record, sizeof device->record, 1, 1, device_condition(device),
         message->bytes, message->length, device->image, sizeof device->image,
         device->map, sizeof device->map, reply, sizeof reply);
+
     note_number("pcp_device_receive", answer.number);
-    device_count(device, before, message, answer, reply);
+    device_count(device, message, answer, reply);
     if (answer.number != PCP_HANDLED)
         return;
     link_send(link, now, GATEWAY, reply, answer.length);
-    if (device_changed(device, before))
+    if (answer.changed)
         device->ask_at = now;
     if (pcp_device_phase(device->record) == PCP_DEVICE_INSTALLING)
         device_install(device, now);
@@ -413,12 +404,11 @@ static void gateway_changed(struct gateway *gateway, unsigned long now,
 static void gateway_receive(struct gateway *gateway, struct link *link,
                             unsigned long now, const struct message *message)
 {
-    uint8_t before[PCP_GATEWAY_RECORD], reply[PCP_GATEWAY_REPLY];
+    uint8_t reply[PCP_GATEWAY_REPLY];
     pcp_answer answer;
 
     if (!is_wanted(gateway, message))
         return;
-    memcpy(before, gateway->record, sizeof before);
     answer = pcp_gateway_receive(gateway->record, sizeof gateway->record, 1, 1,
                                  message->bytes, message->length,
                                  gateway->package, gateway->package_length,
@@ -428,7 +418,7 @@ static void gateway_receive(struct gateway *gateway, struct link *link,
         return;
     link_send(link, now, DEVICE, reply, answer.length);
     gateway_handled(gateway, now, message, answer.length > 0);
-    if (memcmp(before, gateway->record, sizeof before) != 0)
+    if (answer.changed)
         gateway_changed(gateway, now, message);
 }
 

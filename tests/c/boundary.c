@@ -158,6 +158,35 @@ static uint32_t packed(pcp_answer answer)
     return answer.number + 256u * answer.length;
 }
 
+/* These bytes of a buffer are as the call found them. */
+static int unchanged(const call *c, uint8_t *const at[BUFFERS], int which,
+                     size_t from, size_t to)
+{
+    return same(at[which] + from, c->buffers[which].bytes + from, to - from);
+}
+
+/* What the answer says of record and image is so. */
+static void expect_told(const call *c, uint8_t *const at[BUFFERS],
+                        pcp_answer answer, size_t record)
+{
+    size_t image = c->buffers[IMAGE].length, from = answer.image_at;
+
+    if (answer.number == PCP_HANDLED)
+        expect(answer.changed == !unchanged(c, at, RECORD, 0, record),
+               "the answer is wrong about the record");
+    else
+        expect(answer.changed == 0 && answer.image_length == 0,
+               "a refused call tells of changes");
+    if (image == 0)
+        return;
+    expect(from + answer.image_length <= image &&
+               unchanged(c, at, IMAGE, 0, from) &&
+               unchanged(c, at, IMAGE, from + answer.image_length, image) &&
+               (answer.image_length == 0 ||
+                same(at[IMAGE] + from, at[INPUT] + 11, answer.image_length)),
+           "the answer is wrong about the image");
+}
+
 /* The header's functions, on copies.  A buffer passes as two arguments. */
 #define COPY(which) at[which], c->buffers[which].length
 
@@ -183,9 +212,12 @@ static uint32_t device_new(const call *c, uint8_t *const at[BUFFERS])
 
 static uint32_t device_receive(const call *c, uint8_t *const at[BUFFERS])
 {
-    return packed(pcp_device_receive(COPY(RECORD), c->supported, c->pcp,
-                                     c->condition, COPY(INPUT), COPY(IMAGE),
-                                     COPY(MAP), COPY(REPLY)));
+    pcp_answer answer =
+        pcp_device_receive(COPY(RECORD), c->supported, c->pcp, c->condition,
+                           COPY(INPUT), COPY(IMAGE), COPY(MAP), COPY(REPLY));
+
+    expect_told(c, at, answer, PCP_DEVICE_RECORD);
+    return packed(answer);
 }
 
 static uint32_t device_next_message(const call *c, uint8_t *const at[BUFFERS])
@@ -208,8 +240,12 @@ static uint32_t gateway_start(const call *c, uint8_t *const at[BUFFERS])
 
 static uint32_t gateway_receive(const call *c, uint8_t *const at[BUFFERS])
 {
-    return packed(pcp_gateway_receive(COPY(RECORD), c->supported, c->pcp,
-                                      COPY(INPUT), COPY(PACKAGE), COPY(REPLY)));
+    pcp_answer answer =
+        pcp_gateway_receive(COPY(RECORD), c->supported, c->pcp, COPY(INPUT),
+                            COPY(PACKAGE), COPY(REPLY));
+
+    expect_told(c, at, answer, PCP_GATEWAY_RECORD);
+    return packed(answer);
 }
 
 static uint32_t gateway_next_message(const call *c, uint8_t *const at[BUFFERS])

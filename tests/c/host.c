@@ -1,7 +1,8 @@
 /* Compares the library, through its header, with a second implementation that
    is written here from 01 and shares no code with it, on published, valid,
    damaged and random messages.  The inputs are the same in every run.  Also
-   tries numbers that only the header's types can hold. */
+   tries numbers that only the header's types can hold, and what the header's
+   answers and looks say of record, image and map. */
 #define _DEFAULT_SOURCE /* for MAP_ANONYMOUS */
 #include "pcp.h"
 
@@ -575,6 +576,199 @@ static void try_wide_sizes(void)
     expect("size", 0, started("V1.0", 500, 500), record, sizeof record);
 }
 
+/* What answers say of record, image and map.  Each call is made once more on an
+   image in which every byte is another: a byte that is then the same in both
+   was written. */
+
+enum { ANSWERS = 40000, ROOM = 1024 };
+
+typedef struct {
+    uint8_t record[PCP_DEVICE_RECORD], image[ROOM], map[2];
+} device;
+
+/* How often the random calls met a case that the test is about. */
+static struct {
+    unsigned long stored, short_last, changed, unchanged, refused, phases[7];
+} met;
+
+static void set_word(size_t at, unsigned value)
+{
+    message[at] = (uint8_t)(value / 256);
+    message[at + 1] = (uint8_t)(value % 256);
+}
+
+static size_t make_announcement(void)
+{
+    static const unsigned size[] = {31, 32, 33, 100, 500};
+    size_t length = make(PCP_ANNOUNCE, 22);
+
+    memset(message + 8, 0, PCP_VERSION_LENGTH);
+    memcpy(message + 8, below(8) == 0 ? "V0.9" : "V1.0", 4);
+    set_word(24, size[below(5)]);
+    set_word(26, 1 + below(9));
+    set_word(28, below(2));
+    return length;
+}
+
+/* Mostly one that the download held has a place for. */
+static size_t make_fragment(const device *d)
+{
+    unsigned size = pcp_device_size(d->record);
+    unsigned total = pcp_device_total(d->record), index = below(total + 1);
+    unsigned data = index + 1 < total ? size : 1 + below(size + 1);
+    size_t length = make(PCP_FRAGMENT, 3 + data);
+
+    message[8] = 0x00;
+    set_word(9, index);
+    if (below(40) == 0) {
+        static const uint8_t result[] = {0x80, 0x81, 0x82};
+
+        length = make(PCP_FRAGMENT, 3);
+        message[8] = result[below(3)];
+    }
+    return length;
+}
+
+static size_t make_to_device(const device *d)
+{
+    uint32_t choice = below(40);
+    size_t length;
+
+    if (choice == 0)
+        length = make_announcement();
+    else if (choice == 1)
+        length = make(PCP_QUERY, 0);
+    else if (choice == 2)
+        length = make(PCP_EXECUTE, 0);
+    else if (choice < 5) {
+        length = make(choice == 3 ? PCP_DOWNLOAD_RESULT : PCP_UPGRADE_RESULT, 1);
+        message[8] = below(4) == 0 ? 0x80 : 0x00;
+    } else
+        length = make_fragment(d);
+    seal(length);
+    if (below(20) == 0)
+        message[below((uint32_t)length)] ^= (uint8_t)(1 + below(255));
+    return length;
+}
+
+static pcp_answer give(device *d, size_t length, int condition, size_t room)
+{
+    uint8_t reply[PCP_DEVICE_REPLY];
+
+    return pcp_device_receive(d->record, sizeof d->record, 1, 1, condition,
+                              message, length, d->image, sizeof d->image,
+                              d->map, sizeof d->map, reply, room);
+}
+
+static void expect_written(pcp_answer answer, const device *d,
+                           const device *other)
+{
+    size_t from = answer.image_at, to = from + answer.image_length;
+
+    expect("image bytes told", 1, to <= ROOM, message, 11);
+    for (size_t i = 0; i < ROOM; i++) {
+        int told = i >= from && i < to;
+
+        expect("image byte written", (unsigned)told,
+               d->image[i] == other->image[i], message, 11);
+        if (told)
+            expect("image byte", message[11 + i - from], d->image[i], message,
+                   11);
+    }
+}
+
+static void note_met(pcp_answer answer, const device *d)
+{
+    met.stored += answer.image_length > 0;
+    met.short_last += answer.image_length > 0 &&
+                      answer.image_length < pcp_device_size(d->record);
+    met.changed += answer.changed;
+    met.unchanged += answer.number == PCP_HANDLED && !answer.changed;
+    met.refused += answer.number != PCP_HANDLED;
+    met.phases[pcp_device_phase(d->record)]++;
+}
+
+static void try_answer(device *d)
+{
+    device before = *d, other = *d;
+    size_t length = make_to_device(d);
+    int condition = below(10) == 0 ? PCP_BUSY : PCP_READY;
+    size_t room = below(20) == 0 ? PCP_DEVICE_REPLY - 1 : PCP_DEVICE_REPLY;
+    pcp_answer answer = give(d, length, condition, room), again;
+    int changed = memcmp(&before.record, d->record, sizeof d->record) != 0;
+
+    for (size_t i = 0; i < ROOM; i++)
+        other.image[i] ^= 0xFF;
+    again = give(&other, length, condition, room);
+    expect("number with another image", answer.number, again.number, message,
+           length);
+    expect("changed", (unsigned)changed, answer.changed, message, length);
+    if (!changed)
+        expect("map of an unchanged record", 0,
+               memcmp(before.map, d->map, sizeof d->map) != 0, message, length);
+    if (answer.number != PCP_HANDLED)
+        expect("refused, but changed", 0, (unsigned)changed, message, length);
+    expect_written(answer, d, &other);
+    note_met(answer, d);
+    compared++;
+}
+
+static void expect_met(const char *what, unsigned long times)
+{
+    expect(what, 1, times >= 100, record, 0);
+}
+
+static void try_answers(void)
+{
+    static device d;
+
+    expect("making", 0, pcp_device_new(d.record, sizeof d.record, "V0.9", 4),
+           d.record, sizeof d.record);
+    for (int i = 0; i < ANSWERS; i++) {
+        try_answer(&d);
+        if (pcp_device_phase(d.record) == PCP_DEVICE_INSTALLING &&
+            below(10) == 0)
+            pcp_device_install_finished(d.record, sizeof d.record,
+                                        PCP_INSTALL_FAILED);
+    }
+    expect_met("fragments stored", met.stored);
+    expect_met("short last fragments", met.short_last);
+    expect_met("changes", met.changed);
+    expect_met("handled without a change", met.unchanged);
+    expect_met("refusals", met.refused);
+    for (int phase = 0; phase < 7; phase++)
+        expect_met("phase", met.phases[phase]);
+}
+
+/* The looks, against the fields of an announcement as they were sent. */
+static void try_looks(void)
+{
+    device d;
+    size_t length = make_announcement();
+
+    set_word(24, 33);
+    set_word(26, 9);
+    set_word(28, 0x1234);
+    message[9] = '2';
+    seal(length);
+    pcp_device_new(d.record, sizeof d.record, "V0.9", 4);
+    expect("announcement", 0,
+           give(&d, length, PCP_READY, PCP_DEVICE_REPLY).number, message,
+           length);
+    expect("running", 0, memcmp(pcp_device_running(d.record), "V0.9\0", 5) != 0,
+           message, length);
+    expect("target", 0,
+           memcmp(pcp_device_target(d.record), message + 8,
+                  PCP_VERSION_LENGTH) != 0,
+           message, length);
+    expect("size", 33, pcp_device_size(d.record), message, length);
+    expect("total", 9, pcp_device_total(d.record), message, length);
+    expect("code", 0x1234, pcp_device_code(d.record), message, length);
+    expect("stored", 0, pcp_device_stored(d.record), message, length);
+    expect("map length", 2, pcp_device_map_length(d.record), message, length);
+    compared++;
+}
+
 int main(void)
 {
     uint8_t *room = mmap(NULL, (size_t)LONGEST + GUARD, PROT_READ | PROT_WRITE,
@@ -598,6 +792,8 @@ int main(void)
     try_long();
     try_wide_at_device();
     try_wide_sizes();
+    try_answers();
+    try_looks();
 
     printf("c host: %lu compared, %lu different\n", compared, different);
     return different == 0 ? EXIT_SUCCESS : EXIT_FAILURE;

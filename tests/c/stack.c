@@ -1,0 +1,298 @@
+/* stack MANUAL - how much stack each call takes, through the header, in a whole
+   upgrade with refused calls between.  Each runs on a stack of its own that was
+   painted before: the bytes from the caller's frame down to the last that lost
+   its paint, arguments included.  Fails if the manual's table states less than
+   was measured, or more than STATED times as much. */
+#define _XOPEN_SOURCE 700 /* for ucontext.h */
+#include "pcp.h"
+
+#include <stdio.h>
+#include <stdlib.h>
+#include <ucontext.h>
+
+enum { STACK = 1 << 16, PAINT = 0xA5, SIZE = 500, PACKAGE = 3 * SIZE + 77 };
+
+#define STATED 1.25
+
+/* Measuring. */
+
+typedef struct {
+    const char *name;
+    void (*work)(void);
+    size_t most;
+} measured;
+
+static uint8_t stack[STACK] __attribute__((aligned(16)));
+static uint8_t *frame; /* of the caller */
+static const measured *at_work;
+static ucontext_t back, on_stack;
+
+static void call_on_stack(void)
+{
+    frame = (uint8_t *)__builtin_frame_address(0);
+    at_work->work();
+}
+
+static size_t depth(const measured *call)
+{
+    size_t untouched = 0;
+
+    at_work = call;
+    memset(stack, PAINT, sizeof stack);
+    if (getcontext(&on_stack) != 0)
+        exit(2);
+    on_stack.uc_stack.ss_sp = stack;
+    on_stack.uc_stack.ss_size = sizeof stack;
+    on_stack.uc_link = &back;
+    makecontext(&on_stack, call_on_stack, 0);
+    if (swapcontext(&back, &on_stack) != 0)
+        exit(2);
+    while (stack[untouched] == PAINT)
+        untouched++;
+    return (size_t)(frame - (stack + untouched));
+}
+
+static void measure(measured *call)
+{
+    size_t taken = depth(call);
+
+    if (taken > call->most)
+        call->most = taken;
+}
+
+/* The calls, on the state of one device and one gateway. */
+
+static uint8_t device[PCP_DEVICE_RECORD], gateway[PCP_GATEWAY_RECORD];
+static uint8_t image[4 * SIZE], map[8], package[PACKAGE];
+static uint8_t to_device[PCP_GATEWAY_REPLY], to_gateway[PCP_DEVICE_REPLY];
+static size_t to_device_length, to_gateway_length;
+static uint8_t reply[PCP_GATEWAY_REPLY];
+static size_t reply_room = sizeof reply;
+static int condition = PCP_READY, code = PCP_INSTALLED;
+static pcp_answer answer;
+static volatile unsigned result;
+
+static void check_of_bytes(void)
+{
+    result = pcp_check_of_bytes(package, sizeof package);
+}
+
+static void check_of_message(void)
+{
+    result = pcp_check_of_message(to_device, to_device_length);
+}
+
+static void recognise_message(void)
+{
+    result = pcp_recognise_message(1, 1, to_device, to_device_length);
+}
+
+static void device_new(void)
+{
+    result = pcp_device_new(device, sizeof device, "V1.0", 4);
+}
+
+static void device_receive(void)
+{
+    answer = pcp_device_receive(device, sizeof device, 1, 1, condition,
+                                to_device, to_device_length, image,
+                                sizeof image, map, sizeof map, reply,
+                                reply_room);
+}
+
+static void device_next_message(void)
+{
+    answer = pcp_device_next_message(device, sizeof device, image,
+                                     sizeof image, map, sizeof map, reply,
+                                     reply_room);
+}
+
+static void device_install_finished(void)
+{
+    result = pcp_device_install_finished(device, sizeof device, code);
+}
+
+static void gateway_start(void)
+{
+    result = pcp_gateway_start(gateway, sizeof gateway, "V2.0", 4, SIZE,
+                               package, sizeof package, 1);
+}
+
+static void gateway_receive(void)
+{
+    answer = pcp_gateway_receive(gateway, sizeof gateway, 1, 1, to_gateway,
+                                 to_gateway_length, package, sizeof package,
+                                 reply, reply_room);
+}
+
+static void gateway_next_message(void)
+{
+    answer = pcp_gateway_next_message(gateway, sizeof gateway, package,
+                                      sizeof package, reply, reply_room);
+}
+
+enum {
+    CHECK,
+    MESSAGE_CHECK,
+    RECOGNISE,
+    DEVICE_NEW,
+    DEVICE_RECEIVE,
+    DEVICE_NEXT,
+    DEVICE_FINISHED,
+    GATEWAY_START,
+    GATEWAY_RECEIVE,
+    GATEWAY_NEXT,
+    CALLS
+};
+
+static measured calls[CALLS] = {
+    [CHECK] = {"pcp_check_of_bytes", check_of_bytes, 0},
+    [MESSAGE_CHECK] = {"pcp_check_of_message", check_of_message, 0},
+    [RECOGNISE] = {"pcp_recognise_message", recognise_message, 0},
+    [DEVICE_NEW] = {"pcp_device_new", device_new, 0},
+    [DEVICE_RECEIVE] = {"pcp_device_receive", device_receive, 0},
+    [DEVICE_NEXT] = {"pcp_device_next_message", device_next_message, 0},
+    [DEVICE_FINISHED] = {"pcp_device_install_finished",
+                         device_install_finished, 0},
+    [GATEWAY_START] = {"pcp_gateway_start", gateway_start, 0},
+    [GATEWAY_RECEIVE] = {"pcp_gateway_receive", gateway_receive, 0},
+    [GATEWAY_NEXT] = {"pcp_gateway_next_message", gateway_next_message, 0},
+};
+
+/* The upgrade. */
+
+static void take_to_device(void)
+{
+    memcpy(to_device, reply, to_device_length = answer.length);
+}
+
+static void take_to_gateway(void)
+{
+    memcpy(to_gateway, reply, to_gateway_length = answer.length);
+}
+
+/* Also with a short reply buffer, a condition that refuses, and a damaged
+   byte; that last changes no record, for a damaged message is refused. */
+static void give_to_device(void)
+{
+    measure(&calls[CHECK]);
+    measure(&calls[MESSAGE_CHECK]);
+    measure(&calls[RECOGNISE]);
+    reply_room = 0;
+    measure(&calls[DEVICE_RECEIVE]);
+    reply_room = sizeof reply;
+    to_device[to_device_length - 1] ^= 1;
+    measure(&calls[DEVICE_RECEIVE]);
+    to_device[to_device_length - 1] ^= 1;
+    condition = PCP_LOW_POWER;
+    if (to_device[3] == PCP_ANNOUNCE || to_device[3] == PCP_EXECUTE)
+        measure(&calls[DEVICE_RECEIVE]);
+    condition = PCP_READY;
+    measure(&calls[DEVICE_RECEIVE]);
+    take_to_gateway();
+}
+
+static void give_to_gateway(void)
+{
+    to_gateway[to_gateway_length - 1] ^= 1;
+    measure(&calls[GATEWAY_RECEIVE]);
+    to_gateway[to_gateway_length - 1] ^= 1;
+    measure(&calls[GATEWAY_RECEIVE]);
+    take_to_device();
+}
+
+/* The gateway begins: it asks, the device answers. */
+static void gateway_begins(void)
+{
+    measure(&calls[GATEWAY_NEXT]);
+    take_to_device();
+    give_to_device();
+    if (to_gateway_length > 0)
+        give_to_gateway();
+}
+
+/* The device begins, as long as it has something to send. */
+static void device_begins(void)
+{
+    for (;;) {
+        measure(&calls[DEVICE_NEXT]);
+        if (answer.length == 0)
+            return;
+        take_to_gateway();
+        give_to_gateway();
+        give_to_device();
+    }
+}
+
+static void upgrade(void)
+{
+    measure(&calls[DEVICE_NEW]);
+    measure(&calls[GATEWAY_START]);
+    gateway_begins(); /* query */
+    gateway_begins(); /* announcement */
+    device_begins();  /* fragments, download result */
+    gateway_begins(); /* execute */
+    code = -1;
+    measure(&calls[DEVICE_FINISHED]);
+    code = PCP_INSTALLED;
+    measure(&calls[DEVICE_FINISHED]);
+    device_begins(); /* report */
+    measure(&calls[GATEWAY_NEXT]);
+}
+
+/* The manual's table has the rows | `call` | bytes |. */
+
+static size_t stated_in(const char *manual, const char *name)
+{
+    char row[64];
+    const char *at;
+
+    snprintf(row, sizeof row, "\n| `%s` | ", name);
+    for (at = strstr(manual, row); at != NULL; at = strstr(at + 1, row)) {
+        char *end;
+        unsigned long bytes = strtoul(at + strlen(row), &end, 10);
+
+        if (strncmp(end, " |\n", 3) == 0)
+            return bytes;
+    }
+    return 0;
+}
+
+static int compare(const char *manual)
+{
+    int good = 1;
+
+    for (int i = 0; i < CALLS; i++) {
+        size_t stated = stated_in(manual, calls[i].name);
+        int holds = stated >= calls[i].most &&
+                    (double)stated <= STATED * (double)calls[i].most;
+
+        printf("stack: %s takes %lu bytes, the manual says %lu%s\n",
+               calls[i].name, (unsigned long)calls[i].most,
+               (unsigned long)stated, holds ? "" : ": wrong");
+        good = good && holds;
+    }
+    return good;
+}
+
+int main(int count, char **arguments)
+{
+    static char manual[1 << 20];
+    FILE *file = count == 2 ? fopen(arguments[1], "rb") : NULL;
+
+    if (file == NULL || fread(manual, 1, sizeof manual - 1, file) == 0) {
+        fputs("usage: stack MANUAL\n", stderr);
+        return 2;
+    }
+    fclose(file);
+    upgrade(); /* for the linker may do its work in first calls */
+    for (int i = 0; i < CALLS; i++)
+        calls[i].most = 0;
+    upgrade();
+    if (pcp_gateway_phase(gateway) != PCP_GATEWAY_ENDED ||
+        pcp_gateway_ending(gateway) != PCP_ENDING_SUCCESS) {
+        fputs("stack: the upgrade did not succeed\n", stderr);
+        return EXIT_FAILURE;
+    }
+    return compare(manual) ? EXIT_SUCCESS : EXIT_FAILURE;
+}
