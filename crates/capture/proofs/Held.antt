@@ -1,9 +1,13 @@
--- What the walks over a reader share. A reader is a struct of a slice and a number, and both it and a slice are Copy: of what is passed, one copy goes to the call and one is kept for the exit.
+-- What the walks over a reader share. A reader is a struct of a slice and a number, and both it and a slice are Copy: of what is
+-- passed, one copy goes to the call and one is kept for the exit.
 --     Asks s n             what a call of a function on a slice and a number, with no `requires`, asks: the token, and what the two own
+--     AsksSlice s          the same of a function on a slice alone
 --     AsksReader r u       the same of a function on a reader, at its machine value u
+--     AsksMove r u n       the same of a function on a reader and a number
 --     apart                on entry with a reader: what a call on its slice and number asks, and the reader
---     twice                on entry with a slice and a number: what a call on them asks, and the slice
+--     twice                on entry with a slice and a number: what a call on the slice asks, and the slice
 --     passed-on            a reader that a call returned: what a call on it asks
+--     passed-with          the same with a number beside it
 --     together             a slice and a number that fits are a reader
 -- Definitions assume nothing. The laws assume `Given`.
 use mathlib.Core.Path.{_≡_, refl}
@@ -78,22 +82,32 @@ module _ {M : Type 1} (𝓤 : URA M) (H : Heap 𝓤) (A : Atoms 𝓤) (W : Given
   Asks s n = sep 𝓤 (sep 𝓤 (toks 𝓤 A 1 (κ, tt) (q, tt)) (sem 𝓤 H A (OwnBoth κ s n))) (emp 𝓤)
 
   pub apart : (d : CaptureReader) → d .at < 2 ^ 64
-      → ent 𝓤 (sep 𝓤 (toks 𝓤 A 1 (κ, tt) (q, tt)) (sem 𝓤 H A (owns (reader (κ, tt) ∷ []) (d, tt) (mach d ∷ [], tt)))) (sep 𝓤 (Asks (d .capture) (d .at)) (sem 𝓤 H A (Own κ d)))
+      → ent 𝓤 (sep 𝓤 (toks 𝓤 A 1 (κ, tt) (q, tt)) (sem 𝓤 H A (owns (reader (κ, tt) ∷ []) (d, tt) (mach d ∷ [], tt))))
+      (sep 𝓤 (Asks (d .capture) (d .at)) (sem 𝓤 H A (Own κ d)))
   apart d fits =
       qed W ((‵ (flft κ q) ⊛ ‵ ftrue) ∷ ‵ (owns (reader (κ, tt) ∷ []) (d, tt) (mach d ∷ [], tt)) ∷ []) ∵
-      move ! (1 ∷ []) $ fsplit ! $ move ! (1 ∷ []) $ drop ! $ use1 W (‵ (Own κ d) ⊛ ‵ (Own κ d)) (LL.copy (D κ) (T′.the-copy (namedLft 1 0 tt (κ, tt))) 𝓤 H A W .twice d (mach d ∷ [])) $ split ! $
-      use1 W (given (mach d ∷ [] ≡ mach d ∷ []) (‵ (all-own (D κ .parts) (L κ) (fields κ d)))) (own-open 𝓤 H A W (D κ) (L κ) (fields κ d) (mach d)) $ learn ! (λ _.
-      use1 W (‵ (ownAt (D κ .parts) (L κ) 0 (d .capture)) ⊛ ‵ (rest (D κ .parts) (L κ) 0 (fields κ d))) (own-out 𝓤 H A W (D κ .parts) (L κ) 0 (fields κ d)) $ split ! $
+      move ! (1 ∷ []) $ fsplit ! $ move ! (1 ∷ []) $ drop ! $ use1 W (‵ (Own κ d) ⊛ ‵ (Own κ d))
+      (LL.copy (D κ) (T′.the-copy (namedLft 1 0 tt (κ, tt))) 𝓤 H A W .twice d (mach d ∷ [])) $ split ! $
+      use1 W (given (mach d ∷ [] ≡ mach d ∷ []) (‵ (all-own (D κ .parts) (L κ) (fields κ d)))) (own-open 𝓤 H A W (D κ) (L κ) (fields κ d) (mach d)) $
+      learn ! (λ _.
+      use1 W (‵ (ownAt (D κ .parts) (L κ) 0 (d .capture)) ⊛ ‵ (rest (D κ .parts) (L κ) 0 (fields κ d))) (own-out 𝓤 H A W (D κ .parts) (L κ) 0 (fields κ d)) $
+      split ! $
       -- [what the slice owns; what the number owns; what the reader owns; the token]
-      move ! (1 ∷ []) $ drop ! $ nothing ! $ owned ! usize (Is usize) (uint-makes 𝓤 H A W w64) (d .at) _ (refl, fits) $ fjoin ! $ move ! (1 ∷ 0 ∷ []) $ fjoin ! $
+      move ! (1 ∷ []) $ drop ! $ nothing ! $ owned ! usize (Is usize) (uint-makes 𝓤 H A W w64) (d .at) _ (refl, fits) $ fjoin ! $ move ! (1 ∷ 0 ∷ []) $
+      fjoin ! $
       move ! (2 ∷ 0 ∷ []) $ join ! $ nothing ! $ move ! (1 ∷ 0 ∷ []) $ join ! $ frame ! $ done !)
 
-  pub twice : (s : RefT (List ℕ)) (n : ℕ) → ent 𝓤 (sep 𝓤 (toks 𝓤 A 1 (κ, tt) (q, tt)) (sem 𝓤 H A (OwnBoth κ s n))) (sep 𝓤 (Asks s n) (sem 𝓤 H A (OwnSlice κ s)))
+  abbrev pub AsksSlice : RefT (List ℕ) → SProp 𝓤
+  AsksSlice s = sep 𝓤 (sep 𝓤 (toks 𝓤 A 1 (κ, tt) (q, tt)) (sem 𝓤 H A (owns (Part κ ∷ []) (s, tt) (sliceOf s ∷ [], tt)))) (emp 𝓤)
+
+  pub twice : (s : RefT (List ℕ)) (n : ℕ) → ent 𝓤 (sep 𝓤 (toks 𝓤 A 1 (κ, tt) (q, tt)) (sem 𝓤 H A (OwnBoth κ s n)))
+      (sep 𝓤 (AsksSlice s) (sem 𝓤 H A (OwnSlice κ s)))
   twice s n =
       qed W ((‵ (flft κ q) ⊛ ‵ ftrue) ∷ ‵ (OwnBoth κ s n) ∷ []) ∵
       move ! (1 ∷ []) $ fsplit ! $ use1 W (‵ (OwnSlice κ s) ⊛ ‵ (OwnSlice κ s)) (shr-slice-copy 𝓤 H A W (named 0) κ u8 .twice s (sliceOf s ∷ [])) $ split ! $
       -- [what the slice owns, twice; what the number owns; the token]
-      move ! (0 ∷ 2 ∷ []) $ fjoin ! $ move ! (2 ∷ 0 ∷ []) $ join ! $ nothing ! $ move ! (1 ∷ 0 ∷ []) $ join ! $ frame ! $ done !
+      move ! (2 ∷ []) $ drop ! $ nothing ! $ move ! (1 ∷ 0 ∷ []) $ fjoin ! $ move ! (2 ∷ 0 ∷ []) $ join ! $ nothing ! $ move ! (1 ∷ 0 ∷ []) $ join ! $ frame ! $
+      done !
 
   -- what a function on a reader alone, with no `requires`, is entered with, at the machine value u
   abbrev pub AsksReader : CaptureReader → Val → SProp 𝓤
@@ -101,8 +115,22 @@ module _ {M : Type 1} (𝓤 : URA M) (H : Heap 𝓤) (A : Atoms 𝓤) (W : Given
 
   pub passed-on : (r : CaptureReader) (u : Val) → ent 𝓤 (⋆ 𝓤 H A (‵ (reader (κ, tt) .own r (u ∷ [])) ∷ (‵ (flft κ q) ⊛ ‵ ftrue) ∷ [])) (AsksReader r u)
   passed-on r u =
-      qed W (‵ (reader (κ, tt) .own r (u ∷ [])) ∷ (‵ (flft κ q) ⊛ ‵ ftrue) ∷ []) ∵ nothing ! $ move ! (1 ∷ 0 ∷ []) $ fjoin ! $ move ! (1 ∷ 0 ∷ []) $ join ! $ frame ! $ done !
+      qed W (‵ (reader (κ, tt) .own r (u ∷ [])) ∷ (‵ (flft κ q) ⊛ ‵ ftrue) ∷ []) ∵ nothing ! $ move ! (1 ∷ 0 ∷ []) $ fjoin ! $ move ! (1 ∷ 0 ∷ []) $ join ! $
+      frame ! $ done !
+
+  -- and on a reader and a number
+  abbrev pub AsksMove : CaptureReader → Val → ℕ → SProp 𝓤
+  AsksMove r u n = sep 𝓤 (sep 𝓤 (toks 𝓤 A 1 (κ, tt) (q, tt)) (sem 𝓤 H A (owns (reader (κ, tt) ∷ usize ∷ []) (r, (n, tt)) (u ∷ [], (vint w64 n ∷ [], tt)))))
+      (emp 𝓤)
+
+  pub passed-with : (r : CaptureReader) (u : Val) (n : ℕ) → n < 2 ^ 64 → ent 𝓤 (⋆ 𝓤 H A (‵ (reader (κ, tt) .own r (u ∷ [])) ∷ (‵ (flft κ q) ⊛ ‵ ftrue) ∷ []))
+      (AsksMove r u n)
+  passed-with r u n fits =
+      qed W (‵ (reader (κ, tt) .own r (u ∷ [])) ∷ (‵ (flft κ q) ⊛ ‵ ftrue) ∷ []) ∵
+      nothing ! $ owned ! usize (Is usize) (uint-makes 𝓤 H A W w64) n _ (refl, fits) $ fjoin ! $ move ! (1 ∷ 0 ∷ []) $ fjoin ! $ move ! (1 ∷ 0 ∷ []) $ join ! $
+      frame ! $ done !
 
   pub together : (s : RefT (List ℕ)) (n : ℕ) → n < 2 ^ 64 → ent 𝓤 (sem 𝓤 H A (OwnSlice κ s)) (sem 𝓤 H A (Own κ (readerAt s n)))
   together s n fits =
-      qed W (‵ (OwnSlice κ s) ∷ []) ∵ nothing ! $ owned ! usize (Is usize) (uint-makes 𝓤 H A W w64) n _ (refl, fits) $ fjoin ! $ move ! (1 ∷ 0 ∷ []) $ fjoin ! $ by ! (own-shut 𝓤 H A W (D κ) (L κ) (s, (n, tt)))
+      qed W (‵ (OwnSlice κ s) ∷ []) ∵ nothing ! $ owned ! usize (Is usize) (uint-makes 𝓤 H A W w64) n _ (refl, fits) $ fjoin ! $ move ! (1 ∷ 0 ∷ []) $ fjoin ! $
+      by ! (own-shut 𝓤 H A W (D κ) (L κ) (s, (n, tt)))

@@ -10,8 +10,7 @@ use lib.ListN.{length, take, drop, getD, length-append, length-take, length-drop
 use lib.Seq.{getD-append-add, drop-append-add, take-append-seam, take-add, drop-drop}
 use Rattle.basis.specs.Bytes.{Bytes, wordAt, wordBytes, part}
 use Rattle.basis.proofs.Lists.{part-within}
-use Rattle.capture.specs.declared.Step.the-variants.{Record}
-use Rattle.capture.specs.Capture.{markOf, recordBytes, headLength, wrongMark, left, stepAt, placeAfter, partOf}
+use Rattle.capture.specs.Capture.{Item, markOf, recordBytes, headLength, wrongMark, left, itemAt, placeAfter, partOf}
 use Rattle.capture.proofs.Steps.{Found, found, is-found}
 
 right-mark : (toDevice : Bool) → wrongMark (markOf toDevice) ≡ false
@@ -51,16 +50,16 @@ module _ (before : List ℕ) (toDevice : Bool) (message rest : List ℕ) where
   all-there : headLength + length message ≤ left capture (length before)
   all-there = simp (length-append, length-record) (omega arith)
 
-  pub read-record : stepAt capture (length before) ≡ Record toDevice (length before + headLength) (length message)
+  pub read-record : itemAt capture (length before) ≡ Item.found toDevice (length before + headLength) (length message)
   read-record =
       sym (found capture (length before) (omega (arith, all-there)) (λ one. omega (arith, all-there)) mark-read (right-mark toDevice) length-read all-there)
-      ∙ ap (λ (d : Bool). Record d (length before + headLength) (length message)) (mark-tells toDevice)
+      ∙ ap (λ (d : Bool). Item.found d (length before + headLength) (length message)) (mark-tells toDevice)
 
   pub read-message : partOf capture (length before + headLength) (length message) ≡ message
   unfolding recordBytes
   read-message = rw (drop-append-add before (recordBytes toDevice message ++ rest) headLength) (take-append-seam message rest)
 
-  pub read-next : placeAfter (stepAt capture (length before)) (length before) ≡ length (before ++ recordBytes toDevice message)
+  pub read-next : placeAfter (itemAt capture (length before)) (length before) ≡ length (before ++ recordBytes toDevice message)
   read-next = rw (read-record, length-append, length-record) (omega arith)
 
 -- ---- what is read as a record stands there, byte for byte
@@ -85,7 +84,7 @@ words a b c d m n rest hb hd em en =
     let pd : d ≡ n % 256 = omega arith in
     λ i. pa i ∷ pb i ∷ pc i ∷ pd i ∷ rest
 
-pub stands : {toDevice : Bool} {start count : ℕ} (capture : List ℕ) (at : ℕ) → Bytes capture → stepAt capture at ≡ Record toDevice start count
+pub stands : {toDevice : Bool} {start count : ℕ} (capture : List ℕ) (at : ℕ) → Bytes capture → itemAt capture at ≡ Item.found toDevice start count
     → take (headLength + count) (drop at capture) ≡ recordBytes toDevice (partOf capture start count)
 unfolding Bytes recordBytes
 stands {toDevice} {start} {count} capture at bytes e = from-found (is-found capture at e)

@@ -8,38 +8,43 @@ use lib.Dec.{eqb, ltb}
 use lib.ListN.{length}
 use borrow.Author.Tests.{le-leb, lt-leb, lt-ltb, le-ltb, eq-eqb, ne-eqb, ltb-false, eqb-true, not-false}
 use Rattle.basis.proofs.Choosing.{pick-yes, pick-no, by-cases}
-use Rattle.capture.specs.declared.Step.{Step}
-use Rattle.capture.specs.declared.Step.the-variants.{Record, End, Fault}
-use Rattle.capture.specs.Capture.{markOf, headLength, markAt, lengthAt, left, wrongMark, stepAt}
+use Rattle.capture.specs.Capture.{Item, Walk, markOf, headLength, markAt, lengthAt, left, wrongMark, itemAt, placeAfter, walkAt}
 
 module _ (capture : List ℕ) (at : ℕ) where
-  pub ends : length capture ≤ at → End ≡ stepAt capture at
-  unfolding stepAt
+  pub ends : length capture ≤ at → Item.end ≡ itemAt capture at
+  unfolding itemAt
   ends none = sym (pick-yes _ _ _ (le-leb _ _ none))
 
   module _ (some : at < length capture) where
-    pub one-left : left capture at ≡ 1 → Fault 21 ≡ stepAt capture at
-    unfolding stepAt
+    pub one-left : left capture at ≡ 1 → Item.fault 21 ≡ itemAt capture at
+    unfolding itemAt
     one-left one = sym (pick-no _ _ _ (lt-leb _ _ some) ∙ pick-yes _ _ _ (eq-eqb _ _ one))
 
     module _ (more : left capture at ≡ 1 → ⊥) {mark : ℕ} (read : mark ≡ markAt capture at) where
-      pub wrong-mark : wrongMark mark ≡ true → Fault 20 ≡ stepAt capture at
-      unfolding stepAt
+      pub wrong-mark : wrongMark mark ≡ true → Item.fault 20 ≡ itemAt capture at
+      unfolding itemAt
       wrong-mark wrong =
           sym (pick-no _ _ _ (lt-leb _ _ some) ∙ pick-no _ _ _ (ne-eqb _ _ more) ∙ pick-yes _ _ _ (ap wrongMark (sym read) ∙ wrong))
 
       module _ (right : wrongMark mark ≡ false) {count : ℕ} (counted : count ≡ lengthAt capture at) where
-        pub cut-short : left capture at < headLength + count → Fault 21 ≡ stepAt capture at
-        unfolding stepAt
+        pub cut-short : left capture at < headLength + count → Item.fault 21 ≡ itemAt capture at
+        unfolding itemAt
         cut-short short =
             sym (pick-no _ _ _ (lt-leb _ _ some) ∙ pick-no _ _ _ (ne-eqb _ _ more) ∙ pick-no _ _ _ (ap wrongMark (sym read) ∙ right)
             ∙ pick-yes _ _ _ (ap (λ (n : ℕ). ltb (left capture at) (headLength + n)) (sym counted) ∙ lt-ltb _ _ short))
 
-        pub found : headLength + count ≤ left capture at → Record (eqb mark (markOf true)) (at + headLength) count ≡ stepAt capture at
-        unfolding stepAt
+        pub found : headLength + count ≤ left capture at → Item.found (eqb mark (markOf true)) (at + headLength) count ≡ itemAt capture at
+        unfolding itemAt
         found whole =
             rw (read, counted) (sym (pick-no _ _ _ (lt-leb _ _ some) ∙ pick-no _ _ _ (ne-eqb _ _ more) ∙ pick-no _ _ _ (ap wrongMark (sym read) ∙ right)
             ∙ pick-no _ _ _ (ap (λ (n : ℕ). ltb (left capture at) (headLength + n)) (sym counted) ∙ le-ltb _ _ whole)))
+
+-- a step of what stands at a place, and of the place that follows from it
+pub steps : (capture : List ℕ) (at : ℕ) {item : Item} {next : ℕ} → item ≡ itemAt capture at → next ≡ placeAfter item at
+    → _≡_ {A = Walk} (record { item = item; at = next }) (walkAt capture at)
+steps capture at {item} {next} e p =
+    let q : next ≡ placeAfter (itemAt capture at) at = p ∙ ap (λ (i : Item). placeAfter i at) e in
+    λ i. record { item = e i; at = q i }
 
 -- a mark that isn't wrong is one of the two
 mark-is : (mark : ℕ) → wrongMark mark ≡ false → mark ≡ markOf (eqb mark (markOf true))
@@ -58,25 +63,25 @@ pub record Found (capture : List ℕ) (at : ℕ) (toDevice : Bool) (start count 
   pub within : start + count ≤ length capture
 
 module _ {toDevice : Bool} {start count : ℕ} where
-  no-end : {A : Type 0} → End ≡ Record toDevice start count → A
+  no-end : {A : Type 0} → Item.end ≡ Item.found toDevice start count → A
   no-end e = let z : _≡_ {A = ℕ} 0 1 = cc in absurd (omega arith)
 
-  no-fault : {A : Type 0} {number : ℕ} → Fault number ≡ Record toDevice start count → A
+  no-fault : {A : Type 0} {number : ℕ} → Item.fault number ≡ Item.found toDevice start count → A
   no-fault e = let z : _≡_ {A = ℕ} 0 1 = cc in absurd (omega arith)
 
   whole : (capture : List ℕ) (at mark n : ℕ) → markAt capture at ≡ mark → lengthAt capture at ≡ n → wrongMark mark ≡ false → headLength + n ≤ left capture at
-      → Record (eqb mark (markOf true)) (at + headLength) n ≡ Record toDevice start count → Found capture at toDevice start count
+      → Item.found (eqb mark (markOf true)) (at + headLength) n ≡ Item.found toDevice start count → Found capture at toDevice start count
   whole capture at mark n read counted right fits e =
       let d : eqb mark (markOf true) ≡ toDevice = cc in
       let s : at + headLength ≡ start = cc in
       let m : n ≡ count = cc in
       record { mark = read ∙ mark-is mark right ∙ ap markOf d; counted = counted ∙ m; behind = sym s; within = omega arith }
 
-  pub is-found : (capture : List ℕ) (at : ℕ) → stepAt capture at ≡ Record toDevice start count → Found capture at toDevice start count
-  unfolding stepAt
+  pub is-found : (capture : List ℕ) (at : ℕ) → itemAt capture at ≡ Item.found toDevice start count → Found capture at toDevice start count
+  unfolding itemAt
   is-found capture at =
       by-cases P (λ _. no-end) (λ some. by-cases P (λ _. no-fault) (λ _. by-cases P (λ _. no-fault) (λ right. by-cases P (λ _. no-fault) (λ fits.
       whole capture at _ _ refl refl right (ltb-false _ _ fits)))))
     where
-      P : Step → Type 0
-      P step = step ≡ Record toDevice start count → Found capture at toDevice start count
+      P : Item → Type 0
+      P item = item ≡ Item.found toDevice start count → Found capture at toDevice start count

@@ -6,8 +6,6 @@ use lib.Dec.{eqb, leb, ltb}
 use lib.ListN.{length, take, drop}
 use Rattle.basis.specs.Choice.{pick}
 use Rattle.basis.specs.Bytes.{wordAt, wordBytes}
-use Rattle.capture.specs.declared.Step.{Step}
-use Rattle.capture.specs.declared.Step.the-variants.{Record, End, Fault}
 
 -- a record's mark, its two bytes as a WORD: 4C 3E toward the device, 4C 3C from it
 abbrev pub markOf : (toDevice : Bool) → ℕ
@@ -22,8 +20,15 @@ recordBytes toDevice message = wordBytes (markOf toDevice) ++ (wordBytes (length
 abbrev pub headLength : ℕ
 headLength = 4
 
--- ---- reading: the mark and the length of a record at a place, and the bytes left there
+-- ---- reading
 
+-- what the walker gives: the next record, its message so many bytes from start on; the end; or a number, 20 or 21
+pub data Item : Type 0 where
+  found : (toDevice : Bool) (start count : ℕ) → Item
+  end : Item
+  fault : (number : ℕ) → Item
+
+-- the mark and the length of a record at a place, and the bytes left there
 abbrev pub markAt : List ℕ → ℕ → ℕ
 markAt capture at = wordAt capture at
 
@@ -36,31 +41,28 @@ left capture at = length capture - at
 unfoldable pub wrongMark : ℕ → Bool
 wrongMark mark = not (eqb mark (markOf true)) && not (eqb mark (markOf false))
 
--- the end; 1 byte left is 21; 20 for a wrong mark; 21 for a record cut short; else the record, its message from start on
-unfoldable pub stepAt : (capture : List ℕ) (at : ℕ) → Step
-stepAt capture at =
-    pick (leb (length capture) at) End
-    (pick (eqb (left capture at) 1) (Fault 21)
-    (pick (wrongMark (markAt capture at)) (Fault 20)
-    (pick (ltb (left capture at) (headLength + lengthAt capture at)) (Fault 21)
-    (Record (eqb (markAt capture at) (markOf true)) (at + headLength) (lengthAt capture at)))))
+-- the end; 1 byte left is 21; 20 for a wrong mark; 21 for a record cut short; else the record
+unfoldable pub itemAt : (capture : List ℕ) (at : ℕ) → Item
+itemAt capture at =
+    pick (leb (length capture) at) Item.end
+    (pick (eqb (left capture at) 1) (Item.fault 21)
+    (pick (wrongMark (markAt capture at)) (Item.fault 20)
+    (pick (ltb (left capture at) (headLength + lengthAt capture at)) (Item.fault 21)
+    (Item.found (eqb (markAt capture at) (markOf true)) (at + headLength) (lengthAt capture at)))))
 
 -- the next place: behind a record; after the end, 20 and 21 the place stands
-abbrev pub placeAfter : Step → ℕ → ℕ
-placeAfter (Record toDevice start count) at = start + count
-placeAfter End at = at
-placeAfter (Fault number) at = at
+abbrev pub placeAfter : Item → ℕ → ℕ
+placeAfter (Item.found toDevice start count) at = start + count
+placeAfter Item.end at = at
+placeAfter (Item.fault number) at = at
 
--- where the message starts, and how long it is: nothing, at the place itself, where there is no record
-abbrev pub startOf : Step → ℕ → ℕ
-startOf (Record toDevice start count) at = start
-startOf End at = at
-startOf (Fault number) at = at
+-- the walker's step: what it gives at its place, and its place after that
+pub record Walk : Type 0 where
+  pub item : Item
+  pub at : ℕ
 
-abbrev pub lengthOf : Step → ℕ
-lengthOf (Record toDevice start count) = count
-lengthOf End = 0
-lengthOf (Fault number) = 0
+abbrev pub walkAt : (capture : List ℕ) (at : ℕ) → Walk
+walkAt capture at = record { item = itemAt capture at; at = placeAfter (itemAt capture at) at }
 
 -- so many bytes from a place on, or as many as there are
 abbrev pub partOf : List ℕ → (start count : ℕ) → List ℕ

@@ -5,23 +5,13 @@ use mathlib.Core.List.{List}
 use lib.ListN.{length}
 use denote.Ref.{RefT, now}
 use Rattle.capture.specs.declared.CaptureReader.{CaptureReader}
-use Rattle.capture.specs.Capture.{stepAt, placeAfter, startOf, lengthOf, partOf}
+use Rattle.capture.specs.Capture.{partOf}
 
 abbrev pub readerAt : (capture : RefT (List ℕ)) (at : ℕ) → CaptureReader
 readerAt capture at = record { capture = capture; at = at }
-
--- the same capture at the next place
-abbrev pub behind : CaptureReader → CaptureReader
-behind reader =
-    readerAt (reader .capture) (placeAfter (stepAt (now (reader .capture)) (reader .at)) (reader .at))
 
 -- a part of the capture itself. A reference points at a block and an offset in it: the part's is the start, or the capture's
 -- end where that comes first
 pub record Stretch (part capture : RefT (List ℕ)) (start count : ℕ) : Type 0 where
   pub place : part .ptr ≡ (capture .ptr .0, min start (length (now capture)) + capture .ptr .1)
   pub bytes : now part ≡ partOf (now capture) start count
-
--- the part is the message of the record at a place
-abbrev pub MessageAt : (part capture : RefT (List ℕ)) → ℕ → Type 0
-MessageAt part capture at =
-    Stretch part capture (startOf (stepAt (now capture) at) at) (lengthOf (stepAt (now capture) at))

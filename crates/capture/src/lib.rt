@@ -1,10 +1,11 @@
 // Captures (01, "Capture and replay"): records one after the other, each a two-byte mark, a length
 // WORD and that many bytes. A reader holds the borrowed capture and its place (01's walker). The work
 // is done by functions on a slice and a number; those over the reader only take it apart, and
-// `step_from` and `message_from` serve callers that hold no reader.
+// `walk_from` serves callers that hold the place as a number.
 ghost use mathlib.Core.Path.{_≡_};
-ghost use Rattle.capture.specs.Capture.{wrongMark, stepAt, placeAfter};
-ghost use Rattle.capture.specs.Reader.{readerAt, behind, Stretch, MessageAt};
+ghost use Rattle.capture.specs.Capture.{wrongMark, itemAt, walkAt};
+ghost use Rattle.capture.specs.Coded.{itemOf, told};
+ghost use Rattle.capture.specs.Reader.{readerAt, Stretch};
 
 // The mark of a record toward the device, its two bytes as a WORD.
 const TO_DEVICE: u16 = 0x4C3E;
@@ -35,6 +36,12 @@ pub enum Step {
     Fault(u8),
 }
 
+// A reader's step: what stands at its place, and its place after that.
+pub struct Walked {
+    pub step: Step,
+    pub at: usize,
+}
+
 // Neither of the two marks.
 fn wrong_mark(mark: u16) -> bool
     ensures { λ r. ⌜ r ≡ wrongMark mark ⌝ }
@@ -43,8 +50,8 @@ fn wrong_mark(mark: u16) -> bool
 }
 
 // What stands at a place. A place past the end counts as the end.
-pub fn step_at(capture: &[u8], at: usize) -> Step
-    ensures { λ r. ⌜ r ≡ stepAt (now (capture .entry)) at ⌝ }
+fn step_at(capture: &[u8], at: usize) -> Step
+    ensures { λ r. ⌜ itemOf r ≡ itemAt (now (capture .entry)) at ⌝ }
 {
     if capture.len() <= at {
         return Step::End;
@@ -70,18 +77,23 @@ pub fn step_at(capture: &[u8], at: usize) -> Step
     }
 }
 
-// The place after what stands at a place: behind a record, else the same.
-pub fn place_after(capture: &[u8], at: usize) -> usize
-    ensures { λ r. ⌜ r ≡ placeAfter (stepAt (now (capture .entry)) at) at ⌝ }
+// What stands at a place, and the next place: behind a record; after the end, 20 and 21 the place
+// stands.
+fn walk_at(capture: &[u8], at: usize) -> Walked
+    ensures { λ r. ⌜ told r ≡ walkAt (now (capture .entry)) at ⌝ }
 {
-    match step_at(capture, at) {
+    let step = step_at(capture, at);
+    match step {
         Step::Record {
             to_device: _,
             start,
             length,
-        } => start + length,
-        Step::End => at,
-        Step::Fault(_) => at,
+        } => Walked {
+            step,
+            at: start + length,
+        },
+        Step::End => Walked { step, at },
+        Step::Fault(_) => Walked { step, at },
     }
 }
 
@@ -92,21 +104,6 @@ pub fn part_at<'a>(capture: &'a [u8], start: usize, length: usize) -> &'a [u8]
     let from = basis::least(start, capture.len());
     let count = basis::least(length, capture.len() - from);
     &capture[from..from + count]
-}
-
-// The message of the record at a place, as a part of the capture; empty where there is no record.
-pub fn message_at<'a>(capture: &'a [u8], at: usize) -> &'a [u8]
-    ensures { λ r. ⌜ MessageAt r (capture .entry) at ⌝ }
-{
-    match step_at(capture, at) {
-        Step::Record {
-            to_device: _,
-            start,
-            length,
-        } => part_at(capture, start, length),
-        Step::End => part_at(capture, at, 0),
-        Step::Fault(_) => part_at(capture, at, 0),
-    }
 }
 
 // A borrowed capture and the place of its next record.
@@ -123,49 +120,27 @@ impl<'a> CaptureReader<'a> {
         CaptureReader { capture, at: 0 }
     }
 
-    // A reader at a place where one stood before.
-    pub fn resumed(capture: &'a [u8], at: usize) -> CaptureReader<'a>
-        ensures { λ r. ⌜ r ≡ readerAt (capture .entry) at ⌝ }
+    // The same capture, read from another place on: that which `next` told, or any.
+    pub fn moved(self, at: usize) -> CaptureReader<'a>
+        ensures { λ r. ⌜ r ≡ readerAt (self .entry .capture) at ⌝ }
     {
-        CaptureReader { capture, at }
-    }
-
-    // What stands at its place.
-    pub fn next(self) -> Step
-        ensures { λ r. ⌜ r ≡ stepAt (now (self .entry .capture)) (self .entry .at) ⌝ }
-    {
-        step_at(self.capture, self.at)
-    }
-
-    // The message of the record at its place, as a part of the capture; empty where there is none.
-    pub fn message(self) -> &'a [u8]
-        ensures { λ r. ⌜ MessageAt r (self .entry .capture) (self .entry .at) ⌝ }
-    {
-        message_at(self.capture, self.at)
-    }
-
-    // The reader behind the record at its place; after the end, 20 and 21 its place stands.
-    pub fn after(self) -> CaptureReader<'a>
-        ensures { λ r. ⌜ r ≡ behind (self .entry) ⌝ }
-    {
-        let at = place_after(self.capture, self.at);
         CaptureReader {
             capture: self.capture,
             at,
         }
     }
+
+    // What stands at its place, and its place after that.
+    pub fn next(self) -> Walked
+        ensures { λ r. ⌜ told r ≡ walkAt (now (self .entry .capture)) (self .entry .at) ⌝ }
+    {
+        walk_at(self.capture, self.at)
+    }
 }
 
-// What a reader of the capture finds at a place.
-pub fn step_from(capture: &[u8], at: usize) -> Step
-    ensures { λ r. ⌜ r ≡ stepAt (now (capture .entry)) at ⌝ }
+// A reader's step at a place of the capture.
+pub fn walk_from(capture: &[u8], at: usize) -> Walked
+    ensures { λ r. ⌜ told r ≡ walkAt (now (capture .entry)) at ⌝ }
 {
-    CaptureReader::resumed(capture, at).next()
-}
-
-// The message that a reader of the capture finds at a place.
-pub fn message_from<'a>(capture: &'a [u8], at: usize) -> &'a [u8]
-    ensures { λ r. ⌜ MessageAt r (capture .entry) at ⌝ }
-{
-    CaptureReader::resumed(capture, at).message()
+    CaptureReader::new(capture).moved(at).next()
 }

@@ -11,8 +11,7 @@ use borrow.Author.Tests.{ltb-true, ltb-false}
 use Rattle.basis.specs.Choice.{pick}
 use Rattle.basis.proofs.Choosing.{by-cases}
 use Rattle.device.specs.Rules.{After}
-use Rattle.capture.specs.declared.Step.{Step}
-use Rattle.capture.specs.Capture.{stepAt, placeAfter}
+use Rattle.capture.specs.Capture.{itemAt, placeAfter}
 use Rattle.capture.proofs.Steps.{ends}
 use Rattle.transcript.specs.Text.{figures, decimal}
 use Rattle.transcript.specs.Transcript.{after, printed, goesOn, textFrom}
@@ -54,9 +53,9 @@ enough : (capture : List ℕ) (most more number at : ℕ) (s : After) → length
 unfolding textFrom
 enough capture zero more number at s h = at-end capture (0 + more) number at s (omega arith)
 enough capture (suc most) more number at s h =
-    rw (suc-add most more) (ap (λ (l : List ℕ). printed number (stepAt capture at) (after capture (stepAt capture at) s) ++ l)
-    (same-if (goesOn (stepAt capture at)) (λ t. let p : Past capture at (placeAfter (stepAt capture at) at) = past-record capture at (stepAt capture at) refl t in
-    enough capture most more (number + 1) (placeAfter (stepAt capture at) at) (after capture (stepAt capture at) s) (omega (arith, p .past)))))
+    rw (suc-add most more) (ap (λ (l : List ℕ). printed number (itemAt capture at) (after capture (itemAt capture at) s) ++ l)
+    (same-if (goesOn (itemAt capture at)) (λ t. let p : Past capture at (placeAfter (itemAt capture at) at) = past-record capture at (itemAt capture at) refl t in
+    enough capture most more (number + 1) (placeAfter (itemAt capture at) at) (after capture (itemAt capture at) s) (omega (arith, p .past)))))
 
 pub turns-enough : (capture : List ℕ) (more : ℕ) (s : After) → textFrom capture (suc (length capture) + more) 0 0 s ≡ textFrom capture (suc (length capture)) 0 0 s
 turns-enough capture more s = enough capture (suc (length capture)) more 0 0 s (omega arith)

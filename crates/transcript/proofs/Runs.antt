@@ -12,9 +12,7 @@ use Rattle.basis.proofs.Choosing.{pick-yes, pick-no}
 use Rattle.device.specs.declared.Answer.{Answer}
 use Rattle.device.specs.Rules.{After}
 use Rattle.device.specs.Coded.{afterCall}
-use Rattle.capture.specs.declared.Step.{Step}
-use Rattle.capture.specs.declared.Step.the-variants.{Record, End, Fault}
-use Rattle.capture.specs.Capture.{stepAt, placeAfter, headLength}
+use Rattle.capture.specs.Capture.{Item, itemAt, placeAfter, headLength}
 use Rattle.capture.proofs.Steps.{Found, is-found}
 use Rattle.transcript.specs.declared.Turn.{Turn}
 use Rattle.transcript.specs.Transcript.{captureMost, replyLength, line, after, printed, goesOn, textFrom, lineMost, outRoom}
@@ -23,25 +21,25 @@ use Rattle.transcript.proofs.Emitting.{Remaining, whole, complete, onwa
 use Rattle.transcript.proofs.Figures.{length-line, length-fault}
 
 -- what is printed in a turn fits in a line
-printed-fits : (number : ℕ) (step : Step) (t : After) → length (t .reply) ≡ replyLength → length (printed number step t) ≤ lineMost
+printed-fits : (number : ℕ) (item : Item) (t : After) → length (t .reply) ≡ replyLength → length (printed number item t) ≤ lineMost
 unfolding printed
-printed-fits number (Record true start count) t e =
+printed-fits number (Item.found true start count) t e =
     length-line number (t .number) (t .device .phase) (take (t .length) (t .reply)) (simp length-take (omega arith))
-printed-fits number (Record false start count) t e = omega arith
-printed-fits number End t e = omega arith
-printed-fits number (Fault fault) t e = length-fault fault
+printed-fits number (Item.found false start count) t e = omega arith
+printed-fits number Item.end t e = omega arith
+printed-fits number (Item.fault fault) t e = length-fault fault
 
 -- a record takes four bytes or more, and ends within the capture
 pub record Past (capture : List ℕ) (at next : ℕ) : Type 0 where
   pub past : at + headLength ≤ next
   pub within : next ≤ length capture
 
-pub past-record : (capture : List ℕ) (at : ℕ) (step : Step) → stepAt capture at ≡ step → goesOn step ≡ true → Past capture at (placeAfter step at)
+pub past-record : (capture : List ℕ) (at : ℕ) (item : Item) → itemAt capture at ≡ item → goesOn item ≡ true → Past capture at (placeAfter item at)
 unfolding goesOn
-past-record capture at (Record toDevice start count) e m =
+past-record capture at (Item.found toDevice start count) e m =
     let f : Found capture at toDevice start count = is-found capture at e in record { past = omega (arith, f .behind); within = f .within }
-past-record capture at End e m = absurd (false≢true m)
-past-record capture at (Fault number) e m = absurd (false≢true m)
+past-record capture at Item.end e m = absurd (false≢true m)
+past-record capture at (Item.fault number) e m = absurd (false≢true m)
 
 module _ (capture : List ℕ) where
   abbrev all : ℕ
@@ -49,8 +47,8 @@ module _ (capture : List ℕ) where
 
   -- what is left to print before a turn, and when no turn is left
   text-on : (number at : ℕ) (s : After) → number ≤ length capture
-      → textFrom capture (all - number) number at s ≡ printed number (stepAt capture at) (after capture (stepAt capture at) s)
-      ++ pick (goesOn (stepAt capture at)) (textFrom capture (all - (number + 1)) (number + 1) (placeAfter (stepAt capture at) at) (after capture (stepAt capture at) s)) []
+      → textFrom capture (all - number) number at s ≡ printed number (itemAt capture at) (after capture (itemAt capture at) s)
+      ++ pick (goesOn (itemAt capture at)) (textFrom capture (all - (number + 1)) (number + 1) (placeAfter (itemAt capture at) at) (after capture (itemAt capture at) s)) []
   unfolding textFrom
   text-on number at s h =
       let a : all - number ≡ suc (length capture - number) = omega arith in
@@ -81,23 +79,23 @@ module _ (capture : List ℕ) where
       pub turn-room : end + lineMost ≤ length now
       turn-room = omega (arith, i .left .same, i .place, i .written)
 
-      module _ (h : number ≤ length capture) {r : Turn} {image′ map′ reply′ now′ : List ℕ} (u : Turned capture (stepAt capture at) number at (afterCall answer image map reply) now end r image′ map′ reply′ now′) (b : length reply′ ≡ replyLength) where
-        abbrev step : Step
-        step = stepAt capture at
+      module _ (h : number ≤ length capture) {r : Turn} {image′ map′ reply′ now′ : List ℕ} (u : Turned capture (itemAt capture at) number at (afterCall answer image map reply) now end r image′ map′ reply′ now′) (b : length reply′ ≡ replyLength) where
+        abbrev item : Item
+        item = itemAt capture at
 
         abbrev t : After
-        t = after capture step (afterCall answer image map reply)
+        t = after capture item (afterCall answer image map reply)
 
         next-text : List ℕ
-        next-text = pick (goesOn step) (textFrom capture (all - (number + 1)) (number + 1) (placeAfter step at) t) []
+        next-text = pick (goesOn item) (textFrom capture (all - (number + 1)) (number + 1) (placeAfter item at) t) []
 
-        print-fits : length (printed number step t) ≤ lineMost
-        print-fits = printed-fits number step t (ap (λ (a : After). length (a .reply)) (sym (u .device)) ∙ b)
+        print-fits : length (printed number item t) ≤ lineMost
+        print-fits = printed-fits number item t (ap (λ (a : After). length (a .reply)) (sym (u .device)) ∙ b)
 
         turned : Remaining (textFrom capture all 0 0 s₀) before 0 next-text now′ (r .end)
         unfolding next-text
         turned =
-            onward _ before 0 (printed number step t) next-text (rw (text-on number at (afterCall answer image map reply) h) at (i .left)) (omega (arith, turn-room, print-fits)) (u .text)
+            onward _ before 0 (printed number item t) next-text (rw (text-on number at (afterCall answer image map reply) h) at (i .left)) (omega (arith, turn-room, print-fits)) (u .text)
 
         -- the last turn
         pub stops : not (r .more) ≡ true → Emitted (textFrom capture all 0 0 s₀) before 0 now′ (r .end)
@@ -108,8 +106,8 @@ module _ (capture : List ℕ) where
         pub goes-on : not (r .more) ≡ false → Reached before s₀ (r .answer) image′ map′ reply′ now′ (r .at) (r .end) (number + 1)
         unfolding next-text
         goes-on m =
-            let y : goesOn step ≡ true = sym (u .more) ∙ not-false (r .more) m in
-            let p : Past capture at (placeAfter step at) = past-record capture at step refl y in
+            let y : goesOn item ≡ true = sym (u .more) ∙ not-false (r .more) m in
+            let p : Past capture at (placeAfter item at) = past-record capture at item refl y in
             record {
               left = rw (u .place, u .device) (rw (pick-yes _ _ _ y) at turned);
               place = rw (u .place) (p .within);

@@ -7,8 +7,7 @@ use lib.ListN.{length}
 use Rattle.basis.specs.Bytes.{patched}
 use Rattle.device.specs.Rules.{After}
 use Rattle.device.specs.Coded.{afterCall}
-use Rattle.capture.specs.declared.Step.{Step}
-use Rattle.capture.specs.Capture.{placeAfter}
+use Rattle.capture.specs.Capture.{Item, placeAfter}
 use Rattle.transcript.specs.declared.Turn.{Turn}
 use Rattle.transcript.specs.Transcript.{given, line, after, printed, goesOn, Replayed}
 
@@ -25,13 +24,13 @@ pub record Given (message : List ℕ) (number at : ℕ) (s : After) (before : Li
   pub place : r .at ≡ at
   pub more : r .more ≡ true
 
--- what a turn over a step leaves: the device, what is printed, the next place, and whether more follows
-pub record Turned (capture : List ℕ) (step : Step) (number at : ℕ) (s : After) (before : List ℕ) (end : ℕ) (r : Turn) (image map reply now : List ℕ)
+-- what a turn over what stands at a place leaves: the device, what is printed, the next place, and whether more follows
+pub record Turned (capture : List ℕ) (item : Item) (number at : ℕ) (s : After) (before : List ℕ) (end : ℕ) (r : Turn) (image map reply now : List ℕ)
     : Type 0 where
-  pub device : afterCall (r .answer) image map reply ≡ after capture step s
-  pub text : Emitted (printed number step (after capture step s)) before end now (r .end)
-  pub place : r .at ≡ placeAfter step at
-  pub more : r .more ≡ goesOn step
+  pub device : afterCall (r .answer) image map reply ≡ after capture item s
+  pub text : Emitted (printed number item (after capture item s)) before end now (r .end)
+  pub place : r .at ≡ placeAfter item at
+  pub more : r .more ≡ goesOn item
 
 -- what replay answered, with the buffer that it left
 abbrev pub played : ℕ → List ℕ → Replayed

@@ -9,9 +9,7 @@ use Rattle.basis.specs.Bytes.{over}
 use Rattle.device_record.specs.declared.Device.{Device}
 use Rattle.device_record.specs.Record.{newOf}
 use Rattle.device.specs.Rules.{After, receiveOf}
-use Rattle.capture.specs.declared.Step.{Step}
-use Rattle.capture.specs.declared.Step.the-variants.{Record, End, Fault}
-use Rattle.capture.specs.Capture.{headLength, stepAt, placeAfter, partOf}
+use Rattle.capture.specs.Capture.{Item, headLength, itemAt, placeAfter, partOf}
 use Rattle.transcript.specs.Text.{newline, numberText, lineText}
 
 -- at most 32,768 bytes of input
@@ -49,33 +47,33 @@ abbrev pub line : (number : ℕ) → After → List ℕ
 line number s = lineText number (s .number) (s .device .phase) (take (s .length) (s .reply))
 
 -- a record toward the device is given to it; nothing else changes it
-unfoldable pub after : (capture : List ℕ) → Step → After → After
-after capture (Record true start count) s = given s (partOf capture start count)
-after capture (Record false start count) s = s
-after capture End s = s
-after capture (Fault number) s = s
+unfoldable pub after : (capture : List ℕ) → Item → After → After
+after capture (Item.found true start count) s = given s (partOf capture start count)
+after capture (Item.found false start count) s = s
+after capture Item.end s = s
+after capture (Item.fault number) s = s
 
 -- what is printed, the device being as it is after it: a line for a record toward the device, nothing for one from it; 20 or 21 alone
-unfoldable pub printed : (number : ℕ) → Step → After → List ℕ
-printed number (Record true start count) s = line number s
-printed number (Record false start count) s = []
-printed number End s = []
-printed number (Fault fault) s = numberText fault newline
+unfoldable pub printed : (number : ℕ) → Item → After → List ℕ
+printed number (Item.found true start count) s = line number s
+printed number (Item.found false start count) s = []
+printed number Item.end s = []
+printed number (Item.fault fault) s = numberText fault newline
 
 -- a record is followed by what stands behind it; the end, 20 and 21 by nothing
-unfoldable pub goesOn : Step → Bool
-goesOn (Record toDevice start count) = true
-goesOn End = false
-goesOn (Fault number) = false
+unfoldable pub goesOn : Item → Bool
+goesOn (Item.found toDevice start count) = true
+goesOn Item.end = false
+goesOn (Item.fault number) = false
 
 -- what is printed from a place on, so many records having been counted before it. A record has bytes, so that there are fewer
 -- of them than `most`
 unfoldable pub textFrom : (capture : List ℕ) (most number at : ℕ) → After → List ℕ
 textFrom capture zero number at s = []
 textFrom capture (suc most) number at s =
-    let step : Step = stepAt capture at in
-    let t : After = after capture step s in
-    printed number step t ++ pick (goesOn step) (textFrom capture most (number + 1) (placeAfter step at) t) []
+    let item : Item = itemAt capture at in
+    let t : After = after capture item s in
+    printed number item t ++ pick (goesOn item) (textFrom capture most (number + 1) (placeAfter item at) t) []
 
 -- longer input prints only "21"
 unfoldable pub replayText : (capture : List ℕ) → List ℕ

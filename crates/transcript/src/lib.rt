@@ -10,7 +10,7 @@ ghost use mathlib.Core.Bool.{false};
 ghost use Prim.Native.Nat.{suc, _+_, _≤_};
 ghost use lib.ListN.{length};
 ghost use Rattle.device.specs.Coded.{afterCall};
-ghost use Rattle.capture.specs.Capture.{stepAt};
+ghost use Rattle.capture.specs.Capture.{itemAt};
 ghost use Rattle.transcript.specs.Transcript.{captureMost, replyLength, textFrom, lineMost, outRoom, replayOf};
 ghost use Rattle.transcript.specs.Coded.{Emitted, Given, Turned, played};
 
@@ -101,17 +101,19 @@ fn carry_out(
 ) -> Turn
     requires { ⌜ length (now reply) ≡ replyLength ⌝ }
     requires { ⌜ end + lineMost ≤ length (now out) ⌝ }
-    ensures { λ r. ⌜ Turned (now (capture .entry)) (stepAt (now (capture .entry)) at) number at (afterCall answer (now (image .entry)) (now (map .entry)) (now (reply .entry))) (now (out .entry)) end r (now (image .exit)) (now (map .exit)) (now (reply .exit)) (now (out .exit)) ⌝ }
+    ensures { λ r. ⌜ Turned (now (capture .entry)) (itemAt (now (capture .entry)) at) number at (afterCall answer (now (image .entry)) (now (map .entry)) (now (reply .entry))) (now (out .entry)) end r (now (image .exit)) (now (map .exit)) (now (reply .exit)) (now (out .exit)) ⌝ }
 {
-    let next = capture::place_after(capture, at);
-    match capture::step_from(capture, at) {
+    let walked = capture::walk_from(capture, at);
+    let next = walked.at;
+    let step = walked.step;
+    match step {
         Step::Record {
             to_device,
-            start: _,
-            length: _,
+            start,
+            length,
         } => {
             if to_device {
-                let message = capture::message_from(capture, at);
+                let message = capture::part_at(capture, start, length);
                 give(message, number, next, answer, image, map, reply, out, end)
             } else {
                 Turn {

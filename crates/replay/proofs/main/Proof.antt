@@ -6,17 +6,26 @@ use Rattle.transcript.proofs.Replays.{within}
 use Rattle.replay.proofs.main.Statement.{statement}
 use Rattle.replay.proofs.main.Tie as tie
 
-slice-aggregate-read-full : tie.Need-slice-aggregate-read-full
-slice-aggregate-read-full c = search needs
+slice-aggregate-read-input : tie.Need-slice-aggregate-read-input
+slice-aggregate-read-input c = search needs
 
-read-full-requires : tie.Need-read-full-requires
-read-full-requires c κs = search needs
+read-input-requires : tie.Need-read-input-requires
+read-input-requires c κs = search needs
 
-array-share-prefix-input : tie.Need-array-share-prefix-input
-array-share-prefix-input c = search needs
+slice-aggregate-fail : tie.Need-slice-aggregate-fail
+slice-aggregate-fail c = search needs
+
+fail-requires : tie.Need-fail-requires
+fail-requires c κs = search needs
+
+returns : tie.Need-returns
+returns c = search needs
+
+array-share-prefix-buf : tie.Need-array-share-prefix-buf
+array-share-prefix-buf c = search needs
 
 slice-aggregate-replay : tie.Need-slice-aggregate-replay
-slice-aggregate-replay c = search needs
+slice-aggregate-replay c = sym (length-take-le _ _ (c .before .before .before .before .read-input .ensures))
 
 slice-aggregate-replay-2 : tie.Need-slice-aggregate-replay-2
 slice-aggregate-replay-2 c = search needs
@@ -33,20 +42,35 @@ slice-aggregate-write-all c = sym (length-take-le _ _ (within _ _ (c .before .be
 write-all-requires : tie.Need-write-all-requires
 write-all-requires c κs = search needs
 
-returns : tie.Need-returns
-returns c = search needs
+slice-aggregate-fail-2 : tie.Need-slice-aggregate-fail-2
+slice-aggregate-fail-2 c = search needs
+
+fail-requires-2 : tie.Need-fail-requires-2
+fail-requires-2 c κs = search needs
+
+returns-2 : tie.Need-returns-2
+returns-2 c = search needs
+
+returns-3 : tie.Need-returns-3
+returns-3 c = search needs
 
 pub main-spec : {M : Type 1} → statement M
 main-spec =
     tie.close
     (tie.spec
-    slice-aggregate-read-full
-    read-full-requires
-    array-share-prefix-input
+    slice-aggregate-read-input
+    read-input-requires
+    slice-aggregate-fail
+    fail-requires
+    returns
+    array-share-prefix-buf
     slice-aggregate-replay
     slice-aggregate-replay-2
     replay-requires
     array-share-prefix-text
     slice-aggregate-write-all
     write-all-requires
-    returns)
+    slice-aggregate-fail-2
+    fail-requires-2
+    returns-2
+    returns-3)
