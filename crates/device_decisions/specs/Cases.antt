@@ -55,8 +55,11 @@ resumed =
     (5, 7, fields 2 32 9 7, false) ∷
     (6, 7, fields 2 32 9 7, false) ∷
     (1, 7, fields 3 32 9 7, false) ∷
+    (1, 7, fields 2 31 9 7, false) ∷
     (1, 7, fields 2 33 9 7, false) ∷
     (1, 7, fields 2 32 8 7, false) ∷
+    (1, 7, fields 2 32 10 7, false) ∷
+    (1, 7, fields 2 32 9 6, false) ∷
     (1, 7, fields 2 32 9 8, false) ∷
     (1, 0, fields 2 32 9 0, false) ∷  -- the same, but the code is 0
     []
