@@ -11,3 +11,4 @@ pub mod Readings
 pub mod Replying
 pub mod Storing
 pub mod Wanted
+pub mod Cases

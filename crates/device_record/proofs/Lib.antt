@@ -2,3 +2,4 @@ pub mod Guarded
 pub mod Maps
 pub mod Ranges
 pub mod Records
+pub mod Cases

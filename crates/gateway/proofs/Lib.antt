@@ -6,3 +6,4 @@ pub mod Handling
 pub mod Saying
 pub mod Calls
 pub mod Views
+pub mod Cases

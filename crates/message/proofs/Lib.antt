@@ -1,3 +1,4 @@
 pub mod Texts
 pub mod Allowed
 pub mod Tables
+pub mod Cases

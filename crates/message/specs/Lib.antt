@@ -3,3 +3,4 @@ pub mod Version
 pub mod Recognition
 pub mod Messages
 pub mod Coded
+pub mod Cases

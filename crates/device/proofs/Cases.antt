@@ -1,0 +1,27 @@
+-- The cases of the device's calls, computed. Assumes nothing.
+use mathlib.Core.Path.{refl}
+use Rattle.basis.specs.Choice.{pick, refusal, oneOf}
+use Rattle.basis.specs.Bytes.{part, same, over, patched}
+use Rattle.bitmap.specs.Bitmap.{marked, mark, cleared, missingFrom, lowestMissing}
+use Rattle.checksum.specs.Check.{doubled, entryOf, step, register, checkOf, zeroed, messageCheck}
+use Rattle.message.specs.Limits.{sizeOk, totalOk, isWord}
+use Rattle.message.specs.Version.{printable, front, allZero, goodVersion}
+use Rattle.message.specs.Recognition.{startHolds, versionByteHolds, codeHolds, checkHolds, lengthHolds, recognition}
+use Rattle.message.specs.Messages.{deviceCode, deviceData, deviceValid, deviceFields, fragmentOk, gatewayCode, gatewayData, installCode}
+use Rattle.codec.specs.Codec.{sealed, frame, bytesOf, readOf, said}
+use Rattle.device_record.specs.Record.{holding, conditionOk, downloadOk, recordOk, mapBytes, roomOk}
+use Rattle.device.specs.Rules.{announceResult, sameFields, resumes, fragmentLength, passes, completion, executeResult}
+use Rattle.device.specs.Rules.{begin, store, onQuery, onAnnounce, onFragment, onDownloadReply, onExecute, onResultReply, handle}
+use Rattle.device.specs.Rules.{receiveOf, wanted, nextMessageOf, installFinishedOf}
+use Rattle.device.specs.Cases.{DeviceCases}
+
+pub device-cases : DeviceCases
+unfolding pick refusal oneOf part same over patched marked mark cleared missingFrom lowestMissing
+    doubled entryOf step register checkOf zeroed messageCheck sizeOk totalOk isWord printable front allZero goodVersion
+    startHolds versionByteHolds codeHolds checkHolds lengthHolds recognition
+    deviceCode deviceData deviceValid deviceFields fragmentOk gatewayCode gatewayData installCode sealed frame bytesOf readOf said
+    holding conditionOk downloadOk recordOk mapBytes roomOk
+    announceResult sameFields resumes fragmentLength passes completion executeResult
+    begin store onQuery onAnnounce onFragment onDownloadReply onExecute onResultReply handle
+    receiveOf wanted nextMessageOf installFinishedOf
+device-cases = record { step = refl; change = refl; ask = refl; finish = refl; give-order = refl; ask-order = refl }

@@ -1,0 +1,203 @@
+-- The device's calls in computed cases: what each message brings in each phase, what changes in record, image and map, what is said when
+-- asked, the installer's end, and the refusals in their order. What a row says is written from 01, "The head" and "Numbers returned".
+-- Assumes nothing.
+use Prim.Native.Nat.{ℕ}
+use mathlib.Core.Bool.{Bool, true, false}
+use mathlib.Core.List.{List, [], _∷_, _++_}
+use lib.ListN.{take, drop, replicate}
+use Rattle.basis.specs.Cases.{Agree}
+use Rattle.message.specs.Cases.{text}
+use Rattle.message.specs.Messages.{DeviceMessage, query, announce, fragment, downloadReply, execute, resultReply, found}
+use Rattle.codec.specs.Codec.{Sent}
+use Rattle.device_record.specs.declared.Device.{Device}
+use Rattle.device_record.specs.Cases.{device}
+use Rattle.device_decisions.specs.Cases.{fields}
+use Rattle.device.specs.declared.Finished.{Finished}
+use Rattle.device.specs.Rules.{After, handle, receiveOf, nextMessageOf, installFinishedOf}
+
+-- runs V1; V2 in 3 fragments of 32 bytes, with no check code, kept code 04
+abbrev pub holds : (phase stored last : ℕ) → Device
+holds phase stored last = device phase (text 1) (text 2) 32 3 0 stored last 0x04
+
+-- code and data of a message of n bytes at the front of a buffer
+abbrev pub spoken : (n : ℕ) → List ℕ → List ℕ
+spoken n reply = take 1 (drop 3 (take n reply)) ++ drop 8 (take n reply)
+
+-- number, phase, and the reply's code and data
+abbrev pub outcome : After → List ℕ
+outcome a = a .number ∷ a .device .phase ∷ spoken (a .length) (a .reply)
+
+-- fragment 1 of 3 is stored: phase, condition, message; number, phase, reply
+abbrev pub steps : List (ℕ × ℕ × DeviceMessage × List ℕ)
+steps =
+    -- 19, in any phase
+    (0, 0, query, 0 ∷ 0 ∷ 19 ∷ 0x00 ∷ text 1) ∷
+    (1, 1, query, 0 ∷ 1 ∷ 19 ∷ 0x00 ∷ text 1) ∷
+    (6, 0, query, 0 ∷ 6 ∷ 19 ∷ 0x00 ∷ text 1) ∷
+    -- 20
+    (0, 0, announce (fields 3 32 1 7), 0 ∷ 1 ∷ 20 ∷ 0x00 ∷ []) ∷
+    (4, 0, announce (fields 2 32 3 0), 0 ∷ 1 ∷ 20 ∷ 0x00 ∷ []) ∷
+    (2, 4, announce (fields 3 32 1 7), 0 ∷ 2 ∷ 20 ∷ 0x04 ∷ []) ∷
+    (5, 0, announce (fields 3 32 1 7), 0 ∷ 5 ∷ 20 ∷ 0x01 ∷ []) ∷
+    -- 21: phase before index, index before length, length before already stored
+    (1, 0, fragment 0x80 0 [], 0 ∷ 0 ∷ []) ∷
+    (1, 0, fragment 0x81 0 [], 0 ∷ 1 ∷ []) ∷
+    (0, 0, fragment 0x80 0 [], 9 ∷ 0 ∷ []) ∷
+    (2, 0, fragment 0x81 0 [], 9 ∷ 2 ∷ []) ∷
+    (0, 0, fragment 0x00 3 (0x41 ∷ []), 9 ∷ 0 ∷ []) ∷
+    (2, 0, fragment 0x00 3 (0x41 ∷ []), 9 ∷ 2 ∷ []) ∷
+    (3, 0, fragment 0x00 3 (0x41 ∷ []), 9 ∷ 3 ∷ []) ∷
+    (4, 0, fragment 0x00 3 (0x41 ∷ []), 9 ∷ 4 ∷ []) ∷
+    (5, 0, fragment 0x00 3 (0x41 ∷ []), 9 ∷ 5 ∷ []) ∷
+    (6, 0, fragment 0x00 3 (0x41 ∷ []), 9 ∷ 6 ∷ []) ∷
+    (1, 0, fragment 0x00 3 (replicate 33 0x41), 10 ∷ 1 ∷ []) ∷
+    (1, 0, fragment 0x00 1 (0x41 ∷ []), 11 ∷ 1 ∷ []) ∷
+    (1, 0, fragment 0x00 2 (replicate 33 0x41), 11 ∷ 1 ∷ []) ∷
+    (1, 0, fragment 0x00 1 (replicate 32 0x41), 12 ∷ 1 ∷ []) ∷
+    -- 22
+    (0, 0, downloadReply 0x00, 9 ∷ 0 ∷ []) ∷
+    (1, 0, downloadReply 0x00, 9 ∷ 1 ∷ []) ∷
+    (2, 0, downloadReply 0x00, 0 ∷ 3 ∷ []) ∷
+    (2, 0, downloadReply 0x80, 0 ∷ 0 ∷ []) ∷
+    (3, 0, downloadReply 0x00, 9 ∷ 3 ∷ []) ∷
+    (4, 0, downloadReply 0x00, 0 ∷ 0 ∷ []) ∷
+    (4, 0, downloadReply 0x80, 0 ∷ 0 ∷ []) ∷
+    (5, 0, downloadReply 0x00, 9 ∷ 5 ∷ []) ∷
+    (6, 0, downloadReply 0x00, 9 ∷ 6 ∷ []) ∷
+    -- 23
+    (1, 0, execute, 0 ∷ 1 ∷ 23 ∷ 0x01 ∷ []) ∷
+    (2, 0, execute, 0 ∷ 5 ∷ 23 ∷ 0x00 ∷ []) ∷
+    (3, 2, execute, 0 ∷ 5 ∷ 23 ∷ 0x00 ∷ []) ∷
+    (2, 4, execute, 0 ∷ 2 ∷ 23 ∷ 0x04 ∷ []) ∷
+    (3, 127, execute, 0 ∷ 3 ∷ 23 ∷ 0x01 ∷ []) ∷
+    (5, 1, execute, 0 ∷ 5 ∷ 23 ∷ 0x00 ∷ []) ∷
+    -- 24
+    (0, 0, resultReply 0x00, 9 ∷ 0 ∷ []) ∷
+    (2, 0, resultReply 0x00, 9 ∷ 2 ∷ []) ∷
+    (5, 0, resultReply 0x00, 9 ∷ 5 ∷ []) ∷
+    (6, 0, resultReply 0x00, 0 ∷ 0 ∷ []) ∷
+    (6, 0, resultReply 0x80, 0 ∷ 0 ∷ []) ∷
+    []
+
+-- record, image and map
+abbrev State : Type 0
+State = Device × List ℕ × List ℕ
+
+-- three fragments' places
+abbrev places : (a b c : ℕ) → List ℕ
+places a b c = replicate 32 a ++ (replicate 32 b ++ replicate 32 c)
+
+-- before a message; the message; after it
+abbrev pub changes : List (State × DeviceMessage × State)
+changes =
+    -- a fragment at its place, its bit, the count; the last one's length too
+    ((holds 1 1 0, places 0 0x42 0, 0x02 ∷ 0xFF ∷ []), fragment 0x00 0 (replicate 32 0x41), (holds 1 2 0, places 0x41 0x42 0, 0x03 ∷ 0xFF ∷ [])) ∷
+    ((holds 1 1 0, places 0 0x42 0, 0x02 ∷ []), fragment 0x00 2 (replicate 32 0x43), (holds 1 2 32, places 0 0x42 0x43, 0x06 ∷ [])) ∷
+    ((holds 1 1 7, places 0 0 0x43, 0x04 ∷ []), fragment 0x00 1 (replicate 32 0x42), (holds 1 2 7, places 0 0x42 0x43, 0x06 ∷ [])) ∷
+    -- the ninth fragment's bit is the first of the second byte
+    (
+      (device 1 (text 1) (text 2) 32 9 0 0 0 0x04, replicate 289 0, 0x00 ∷ 0x00 ∷ []),
+      fragment 0x00 8 (0x41 ∷ []),
+      (device 1 (text 1) (text 2) 32 9 0 1 1 0x04, replicate 256 0 ++ (0x41 ∷ replicate 32 0), 0x00 ∷ 0x01 ∷ []),
+    ) ∷
+    -- all stored: Loaded with no code or the right one, over 65 bytes here; Failed with another
+    ((holds 1 2 0, places 0x41 0x42 0, 0x03 ∷ []), fragment 0x00 2 (replicate 32 0x43), (holds 2 3 32, places 0x41 0x42 0x43, 0x07 ∷ [])) ∷ (
+      (device 1 (text 1) (text 2) 32 3 0x2C44 2 0 0x04, places 0x41 0x42 0x44, 0x03 ∷ []),
+      fragment 0x00 2 (0x43 ∷ []),
+      (device 2 (text 1) (text 2) 32 3 0x2C44 3 1 0x04, replicate 32 0x41 ++ (replicate 32 0x42 ++ (0x43 ∷ replicate 31 0x44)), 0x07 ∷ []),
+    ) ∷ (
+      (device 1 (text 1) (text 2) 32 3 7 2 0 0x04, places 0x41 0x42 0, 0x03 ∷ []),
+      fragment 0x00 2 (replicate 32 0x43),
+      (device 4 (text 1) (text 2) 32 3 7 3 32 0x04, places 0x41 0x42 0x43, 0x07 ∷ []),
+    ) ∷
+    -- an announcement afresh: its four fields, count and last length 0, its map bytes zeroed and no more
+    ((holds 2 3 7, places 1 2 3, 0xFF ∷ 0xFF ∷ []), announce (fields 3 40 2 5), (device 1 (text 1) (text 3) 40 2 5 0 0 0x04, places 1 2 3, 0x00 ∷ 0xFF ∷ [])) ∷
+    -- resumed, and answered by another code: nothing changes
+    (
+      (device 2 (text 1) (text 2) 32 3 5 3 7 0x04, places 1 2 3, 0xFF ∷ []),
+      announce (fields 2 32 3 5),
+      (device 2 (text 1) (text 2) 32 3 5 3 7 0x04, places 1 2 3, 0xFF ∷ []),
+    ) ∷
+    ((holds 2 3 7, places 1 2 3, 0xFF ∷ []), announce (fields 1 40 2 5), (holds 2 3 7, places 1 2 3, 0xFF ∷ [])) ∷
+    []
+
+-- asked: record, the first map byte; number, and the message's code and data
+abbrev pub asked : List (Device × ℕ × List ℕ)
+asked =
+    (holds 0 0 0, 0x00, 9 ∷ []) ∷
+    (holds 1 1 0, 0x02, 0 ∷ 21 ∷ (text 2 ++ (0x00 ∷ 0x00 ∷ []))) ∷
+    (holds 1 2 0, 0x03, 0 ∷ 21 ∷ (text 2 ++ (0x00 ∷ 0x02 ∷ []))) ∷
+    (holds 1 2 0, 0x07, 29 ∷ []) ∷  -- the map shows none missing
+    (holds 2 3 7, 0x07, 0 ∷ 22 ∷ 0x00 ∷ []) ∷
+    (holds 3 3 7, 0x07, 9 ∷ []) ∷
+    (holds 4 3 7, 0x07, 0 ∷ 22 ∷ 0x07 ∷ []) ∷
+    (holds 5 3 7, 0x07, 9 ∷ []) ∷
+    (holds 6 3 7, 0x07, 0 ∷ 24 ∷ 0x04 ∷ text 1) ∷
+    []
+
+-- the installer's end: record, code; number, record
+abbrev pub finished : List (Device × ℕ × Finished)
+finished =
+    (holds 5 3 7, 0x00, record { number = 0; device = device 6 (text 2) (text 2) 32 3 0 3 7 0x00 }) ∷
+    (holds 5 3 7, 0x0A, record { number = 0; device = device 6 (text 1) (text 2) 32 3 0 3 7 0x0A }) ∷
+    -- 29, 9, 16
+    (holds 2 3 33, 0x02, record { number = 29; device = holds 2 3 33 }) ∷
+    (holds 2 3 7, 0x02, record { number = 9; device = holds 2 3 7 }) ∷
+    (holds 5 3 7, 0x02, record { number = 16; device = holds 5 3 7 }) ∷
+    []
+
+-- refusals of a message in their order, each bad in all that follows: length of the reply buffer, condition, record, length of the image,
+-- whether upgrade is supported, the message; number
+abbrev pub given : List (ℕ × ℕ × Device × ℕ × Bool × List ℕ × ℕ)
+given =
+    (25, 3, holds 1 3 0, 95, false, [], 15) ∷
+    (26, 3, holds 1 3 0, 95, false, [], 13) ∷
+    (26, 0, holds 1 3 0, 95, false, [], 29) ∷
+    (26, 0, holds 1 1 0, 95, false, [], 14) ∷
+    (26, 0, holds 1 1 0, 96, false, [], 1) ∷
+    (26, 0, holds 1 1 0, 96, true, [], 3) ∷
+    -- 24 in Loading, with a result that it may not carry, and with 00
+    (26, 0, holds 1 1 0, 96, true, 0xFF ∷ 0xFE ∷ 0x01 ∷ 0x18 ∷ 0xBF ∷ 0x80 ∷ 0x00 ∷ 0x01 ∷ 0x01 ∷ [], 8) ∷
+    (26, 0, holds 1 1 0, 96, true, 0xFF ∷ 0xFE ∷ 0x01 ∷ 0x18 ∷ 0xAF ∷ 0xA1 ∷ 0x00 ∷ 0x01 ∷ 0x00 ∷ [], 9) ∷
+    []
+
+-- refusals of an ask in their order: length of the reply buffer, record, length of the image; number. The map is full
+abbrev pub asking : List (ℕ × Device × ℕ × ℕ)
+asking =
+    (25, holds 1 3 0, 95, 15) ∷
+    (26, holds 1 3 0, 95, 29) ∷
+    (26, holds 1 1 0, 95, 14) ∷
+    (26, holds 1 1 0, 96, 29) ∷
+    (26, holds 3 3 0, 95, 14) ∷
+    (26, holds 3 3 0, 96, 9) ∷
+    []
+
+abbrev pub zeros : ℕ → List ℕ
+zeros n = replicate n 0
+
+abbrev pub stateOf : After → State
+stateOf a = (a .device, a .image, a .map)
+
+abbrev pub answerOf : Sent → List ℕ
+answerOf s = s .number ∷ spoken (s .length) (s .buffer)
+
+pub record DeviceCases : Type 0 where
+  pub step :
+      Agree
+      (λ (r : ℕ × ℕ × DeviceMessage × List ℕ). outcome (handle (holds (r .0) 1 0) (zeros 96) (0x02 ∷ []) (zeros 26) (r .1) (found (r .2))))
+      (λ r. r .3)
+      steps
+  pub change :
+      Agree {A = State}
+      (λ (r : State × DeviceMessage × State). stateOf (handle (r .0 .0) (r .0 .1) (r .0 .2) (zeros 26) 0 (found (r .1))))
+      (λ r. r .2)
+      changes
+  pub ask : Agree (λ (r : Device × ℕ × List ℕ). answerOf (nextMessageOf (r .0) (zeros 96) (r .1 ∷ []) (zeros 26))) (λ r. r .2) asked
+  pub finish : Agree (λ (r : Device × ℕ × Finished). installFinishedOf (r .0) (r .1)) (λ r. r .2) finished
+  pub give-order :
+      Agree
+      (λ (r : ℕ × ℕ × Device × ℕ × Bool × List ℕ × ℕ). (receiveOf (r .2) (zeros (r .3)) (0x07 ∷ []) (zeros (r .0)) (r .4) true (r .1) (r .5)) .number)
+      (λ r. r .6)
+      given
+  pub ask-order :
+      Agree (λ (r : ℕ × Device × ℕ × ℕ). (nextMessageOf (r .1) (zeros (r .2)) (0x07 ∷ []) (zeros (r .0))) .number) (λ r. r .3) asking

@@ -1,0 +1,33 @@
+-- The cases of the gateway's calls, computed. Assumes nothing.
+use mathlib.Core.Path.{refl}
+use Rattle.basis.specs.Choice.{pick, refusal, oneOf}
+use Rattle.basis.specs.Bytes.{part, same, over}
+use Rattle.checksum.specs.Check.{doubled, entryOf, step, register, checkOf, zeroed, messageCheck}
+use Rattle.message.specs.Limits.{sizeOk, totalOk, isWord}
+use Rattle.message.specs.Version.{printable, front, allZero, goodVersion}
+use Rattle.message.specs.Recognition.{startHolds, versionByteHolds, codeHolds, checkHolds, lengthHolds, recognition}
+use Rattle.message.specs.Messages.{deviceCode, deviceData, gatewayCode, gatewayData, gatewayValid, gatewayFields, installCode}
+use Rattle.codec.specs.Codec.{sealed, frame, bytesOf, readOf, said}
+use Rattle.gateway.specs.Record.{totalOf, lengthOk, fragmentOf, startOf, recordOk}
+use Rattle.gateway.specs.Rules.{asked, serving, fragmentReply, onQueryReply, onAnnounceReply, onFragmentRequest, onDownloadReport}
+use Rattle.gateway.specs.Rules.{onExecuteReply, onResultReport, handle, receiveOf, wanted, nextMessageOf}
+use Rattle.gateway.specs.Cases.{GatewayCases}
+
+pub gateway-cases : GatewayCases
+unfolding pick refusal oneOf part same over doubled entryOf step register checkOf zeroed messageCheck
+    sizeOk totalOk isWord printable front allZero goodVersion startHolds versionByteHolds codeHolds checkHolds lengthHolds recognition
+    deviceCode deviceData gatewayCode gatewayData gatewayValid gatewayFields installCode sealed frame bytesOf readOf said
+    totalOf lengthOk fragmentOf startOf recordOk asked serving fragmentReply
+    onQueryReply onAnnounceReply onFragmentRequest onDownloadReport onExecuteReply onResultReport handle receiveOf wanted nextMessageOf
+gateway-cases =
+    record {
+      total = refl;
+      length = refl;
+      start = refl;
+      record-is = refl;
+      step = refl;
+      change = refl;
+      ask = refl;
+      give-order = refl;
+      ask-order = refl;
+    }

@@ -1,0 +1,179 @@
+-- The gateway's calls in computed cases: total and length of a package, the start (17, 18, 19), the record (29), what each message brings in
+-- each phase, what is said when asked, and the refusals in their order. What a row says is written from 01, "The gateway" and "Numbers
+-- returned". Assumes nothing.
+use Prim.Native.Nat.{ℕ}
+use mathlib.Core.Bool.{Bool, true, false}
+use mathlib.Core.List.{List, [], _∷_, _++_}
+use lib.ListN.{take, drop, replicate}
+use Rattle.basis.specs.Cases.{Agree}
+use Rattle.message.specs.Cases.{text}
+use Rattle.message.specs.Messages.{GatewayMessage, queryReply, announceReply, fragmentRequest, downloadReport, executeReply, resultReport, found}
+use Rattle.codec.specs.Codec.{Sent}
+use Rattle.gateway.specs.declared.Gateway.{Gateway}
+use Rattle.gateway.specs.declared.Started.{Started}
+use Rattle.gateway.specs.Record.{totalOf, lengthOk, startOf, recordOk}
+use Rattle.gateway.specs.Rules.{After, handle, receiveOf, nextMessageOf}
+
+-- phase, ending number; version, size, length and check code of the package
+abbrev pub gateway : (phase ending : ℕ) → List ℕ → (size length code : ℕ) → Gateway
+gateway phase ending version size length code =
+    record { phase = phase; ending = ending; version = version; size = size; length = length; code = code }
+
+-- a package of 33 bytes: at size 32, two fragments. Its check is 7281
+abbrev pub content : List ℕ
+content = replicate 32 0x41 ++ (0x42 ∷ [])
+
+-- V2 is that package, with a check code of its maker's
+abbrev pub offers : (phase ending : ℕ) → Gateway
+offers phase ending = gateway phase ending (text 2) 32 33 0x1234
+
+abbrev pub zeros : ℕ → List ℕ
+zeros n = replicate n 0
+
+-- length, size; total
+abbrev pub totals : List (ℕ × ℕ × ℕ)
+totals = (1, 32, 1) ∷ (32, 32, 1) ∷ (33, 32, 2) ∷ (64, 32, 2) ∷ (65, 32, 3) ∷ (2097120, 32, 65535) ∷ []
+
+-- length, size; neither empty nor longer than 65,535 fragments
+abbrev pub lengths : List (ℕ × ℕ × Bool)
+lengths = (0, 32, false) ∷ (1, 32, true) ∷ (2097120, 32, true) ∷ (2097121, 32, false) ∷ (32767500, 500, true) ∷ (32767501, 500, false) ∷ []
+
+-- version, size, package, whether its check is the code; number, gateway
+abbrev pub starts : List (List ℕ × ℕ × List ℕ × Bool × Started)
+starts =
+    (text 2, 32, content, false, record { number = 0; gateway = gateway 0 0 (text 2) 32 33 0x0000 }) ∷
+    (text 2, 32, content, true, record { number = 0; gateway = gateway 0 0 (text 2) 32 33 0x7281 }) ∷
+    -- 17, 18, 19 in their order
+    ([], 31, [], true, record { number = 17; gateway = gateway 0 0 (zeros 16) 0 0 0 }) ∷
+    (text 2, 31, [], true, record { number = 18; gateway = gateway 0 0 (zeros 16) 0 0 0 }) ∷
+    (text 2, 32, [], true, record { number = 19; gateway = gateway 0 0 (zeros 16) 0 0 0 }) ∷
+    []
+
+-- a record, and whether it keeps the rules (29)
+abbrev pub kept : List (Gateway × Bool)
+kept =
+    (gateway 0 0 (text 2) 32 1 0, true) ∷
+    (gateway 4 5 (text 2) 500 32767500 65535, true) ∷
+    (gateway 5 0 (text 2) 32 33 0, false) ∷
+    (gateway 4 6 (text 2) 32 33 0, false) ∷
+    (gateway 0 0 [] 32 33 0, false) ∷
+    (gateway 0 0 (text 2) 31 33 0, false) ∷
+    (gateway 0 0 (text 2) 501 33 0, false) ∷
+    (gateway 0 0 (text 2) 32 0 0, false) ∷
+    (gateway 0 0 (text 2) 32 2097121 0, false) ∷
+    []
+
+-- code and data of a message of n bytes at the front of a buffer
+abbrev pub spoken : (n : ℕ) → List ℕ → List ℕ
+spoken n reply = take 1 (drop 3 (take n reply)) ++ drop 8 (take n reply)
+
+-- number, phase, ending number, and the reply's code and data
+abbrev pub outcome : After → List ℕ
+outcome a = a .number ∷ a .gateway .phase ∷ a .gateway .ending ∷ spoken (a .length) (a .reply)
+
+-- phase, message; number, phase, ending number, reply
+abbrev pub steps : List (ℕ × GatewayMessage × List ℕ)
+steps =
+    -- 19 answer
+    (0, queryReply 0x00 (text 1), 0 ∷ 1 ∷ 0 ∷ []) ∷
+    (0, queryReply 0x00 (text 2), 0 ∷ 4 ∷ 1 ∷ []) ∷
+    (1, queryReply 0x00 (text 2), 9 ∷ 1 ∷ 0 ∷ []) ∷
+    (2, queryReply 0x00 (text 2), 9 ∷ 2 ∷ 0 ∷ []) ∷
+    (3, queryReply 0x00 (text 2), 9 ∷ 3 ∷ 0 ∷ []) ∷
+    (4, queryReply 0x00 (text 2), 9 ∷ 4 ∷ 0 ∷ []) ∷
+    -- 20 answer
+    (0, announceReply 0x00, 9 ∷ 0 ∷ 0 ∷ []) ∷
+    (1, announceReply 0x00, 0 ∷ 2 ∷ 0 ∷ []) ∷
+    (1, announceReply 0x03, 0 ∷ 4 ∷ 2 ∷ []) ∷
+    (2, announceReply 0x03, 9 ∷ 2 ∷ 0 ∷ []) ∷
+    (3, announceReply 0x03, 9 ∷ 3 ∷ 0 ∷ []) ∷
+    (4, announceReply 0x00, 9 ∷ 4 ∷ 0 ∷ []) ∷
+    -- 21: the version before the index
+    (0, fragmentRequest (text 2) 0, 0 ∷ 0 ∷ 0 ∷ 21 ∷ 0x80 ∷ 0x00 ∷ 0x00 ∷ []) ∷
+    (1, fragmentRequest (text 2) 0, 0 ∷ 1 ∷ 0 ∷ 21 ∷ 0x80 ∷ 0x00 ∷ 0x00 ∷ []) ∷
+    (2, fragmentRequest (text 2) 0, 0 ∷ 2 ∷ 0 ∷ 21 ∷ 0x00 ∷ 0x00 ∷ 0x00 ∷ replicate 32 0x41) ∷
+    (2, fragmentRequest (text 2) 1, 0 ∷ 2 ∷ 0 ∷ 21 ∷ 0x00 ∷ 0x00 ∷ 0x01 ∷ 0x42 ∷ []) ∷
+    (2, fragmentRequest (text 2) 2, 0 ∷ 2 ∷ 0 ∷ 21 ∷ 0x81 ∷ 0x00 ∷ 0x02 ∷ []) ∷
+    (2, fragmentRequest (text 1) 2, 0 ∷ 2 ∷ 0 ∷ 21 ∷ 0x80 ∷ 0x00 ∷ 0x02 ∷ []) ∷
+    (3, fragmentRequest (text 2) 1, 0 ∷ 3 ∷ 0 ∷ 21 ∷ 0x00 ∷ 0x00 ∷ 0x01 ∷ 0x42 ∷ []) ∷
+    (4, fragmentRequest (text 2) 0, 0 ∷ 4 ∷ 0 ∷ 21 ∷ 0x80 ∷ 0x00 ∷ 0x00 ∷ []) ∷
+    -- 22
+    (0, downloadReport 0x00, 0 ∷ 0 ∷ 0 ∷ 22 ∷ 0x80 ∷ []) ∷
+    (1, downloadReport 0x00, 0 ∷ 1 ∷ 0 ∷ 22 ∷ 0x80 ∷ []) ∷
+    (2, downloadReport 0x00, 0 ∷ 3 ∷ 0 ∷ 22 ∷ 0x00 ∷ []) ∷
+    (2, downloadReport 0x07, 0 ∷ 4 ∷ 3 ∷ 22 ∷ 0x00 ∷ []) ∷
+    (3, downloadReport 0x07, 0 ∷ 3 ∷ 0 ∷ 22 ∷ 0x00 ∷ []) ∷
+    (4, downloadReport 0x00, 0 ∷ 4 ∷ 0 ∷ 22 ∷ 0x80 ∷ []) ∷
+    -- 23 answer
+    (0, executeReply 0x01, 9 ∷ 0 ∷ 0 ∷ []) ∷
+    (1, executeReply 0x01, 9 ∷ 1 ∷ 0 ∷ []) ∷
+    (2, executeReply 0x01, 9 ∷ 2 ∷ 0 ∷ []) ∷
+    (3, executeReply 0x00, 0 ∷ 3 ∷ 0 ∷ []) ∷
+    (3, executeReply 0x01, 0 ∷ 4 ∷ 4 ∷ []) ∷
+    (4, executeReply 0x01, 9 ∷ 4 ∷ 0 ∷ []) ∷
+    -- 24
+    (0, resultReport 0x00 (text 2), 0 ∷ 0 ∷ 0 ∷ 24 ∷ 0x80 ∷ []) ∷
+    (1, resultReport 0x00 (text 2), 0 ∷ 1 ∷ 0 ∷ 24 ∷ 0x80 ∷ []) ∷
+    (2, resultReport 0x00 (text 2), 0 ∷ 2 ∷ 0 ∷ 24 ∷ 0x80 ∷ []) ∷
+    (3, resultReport 0x00 (text 2), 0 ∷ 4 ∷ 0 ∷ 24 ∷ 0x00 ∷ []) ∷
+    (3, resultReport 0x00 (text 1), 0 ∷ 4 ∷ 5 ∷ 24 ∷ 0x00 ∷ []) ∷
+    (3, resultReport 0x01 (text 2), 0 ∷ 4 ∷ 5 ∷ 24 ∷ 0x00 ∷ []) ∷
+    (4, resultReport 0x01 (text 2), 0 ∷ 4 ∷ 0 ∷ 24 ∷ 0x80 ∷ []) ∷
+    []
+
+-- phase, message; the record after it: all but phase and ending number stay
+abbrev pub records : List (ℕ × GatewayMessage × Gateway)
+records =
+    (0, queryReply 0x00 (text 1), gateway 1 0 (text 2) 32 33 0x1234) ∷
+    (3, executeReply 0x04, gateway 4 4 (text 2) 32 33 0x1234) ∷
+    []
+
+-- asked: phase; number, and the message's code and data
+abbrev pub asked : List (ℕ × List ℕ)
+asked =
+    (0, 0 ∷ 19 ∷ []) ∷
+    (1, 0 ∷ 20 ∷ (text 2 ++ (0x00 ∷ 0x20 ∷ 0x00 ∷ 0x02 ∷ 0x12 ∷ 0x34 ∷ []))) ∷
+    (2, 9 ∷ []) ∷
+    (3, 0 ∷ 23 ∷ []) ∷
+    (4, 9 ∷ []) ∷
+    []
+
+-- refusals of a message in their order, each bad in all that follows: length of the reply buffer, record, package, whether upgrade is
+-- supported, the message; number
+abbrev pub given : List (ℕ × Gateway × List ℕ × Bool × List ℕ × ℕ)
+given =
+    (510, offers 0 6, [], false, [], 15) ∷
+    (511, offers 0 6, [], false, [], 29) ∷
+    (511, offers 0 0, [], false, [], 14) ∷
+    (511, offers 0 0, zeros 32, false, [], 14) ∷
+    (511, offers 0 0, zeros 34, false, [], 14) ∷
+    (511, offers 0 0, content, false, [], 1) ∷
+    (511, offers 0 0, content, true, [], 3) ∷
+    -- 20 answer in Ask, with a result that it may not carry, and with 00
+    (511, offers 0 0, content, true, 0xFF ∷ 0xFE ∷ 0x01 ∷ 0x14 ∷ 0xB7 ∷ 0xAE ∷ 0x00 ∷ 0x01 ∷ 0x06 ∷ [], 8) ∷
+    (511, offers 0 0, content, true, 0xFF ∷ 0xFE ∷ 0x01 ∷ 0x14 ∷ 0xD7 ∷ 0x68 ∷ 0x00 ∷ 0x01 ∷ 0x00 ∷ [], 9) ∷
+    []
+
+-- refusals of an ask in their order: length of the reply buffer, record, package; number
+abbrev pub asking : List (ℕ × Gateway × List ℕ × ℕ)
+asking =
+    (510, offers 2 6, [], 15) ∷
+    (511, offers 2 6, [], 29) ∷
+    (511, offers 2 0, [], 14) ∷
+    (511, offers 2 0, content, 9) ∷
+    []
+
+abbrev pub answerOf : Sent → List ℕ
+answerOf s = s .number ∷ spoken (s .length) (s .buffer)
+
+pub record GatewayCases : Type 0 where
+  pub total : Agree (λ (r : ℕ × ℕ × ℕ). totalOf (r .0) (r .1)) (λ r. r .2) totals
+  pub length : Agree (λ (r : ℕ × ℕ × Bool). lengthOk (r .0) (r .1)) (λ r. r .2) lengths
+  pub start : Agree (λ (r : List ℕ × ℕ × List ℕ × Bool × Started). startOf (r .0) (r .1) (r .2) (r .3)) (λ r. r .4) starts
+  pub record-is : Agree (λ (r : Gateway × Bool). recordOk (r .0)) (λ r. r .1) kept
+  pub step : Agree (λ (r : ℕ × GatewayMessage × List ℕ). outcome (handle (offers (r .0) 0) content (zeros 511) (found (r .1)))) (λ r. r .2) steps
+  pub change : Agree (λ (r : ℕ × GatewayMessage × Gateway). (handle (offers (r .0) 0) content (zeros 511) (found (r .1))) .gateway) (λ r. r .2) records
+  pub ask : Agree (λ (r : ℕ × List ℕ). answerOf (nextMessageOf (offers (r .0) 0) content (zeros 511))) (λ r. r .1) asked
+  pub give-order :
+      Agree (λ (r : ℕ × Gateway × List ℕ × Bool × List ℕ × ℕ). (receiveOf (r .1) (r .2) (zeros (r .0)) (r .3) true (r .4)) .number) (λ r. r .5) given
+  pub ask-order : Agree (λ (r : ℕ × Gateway × List ℕ × ℕ). (nextMessageOf (r .1) (r .2) (zeros (r .0))) .number) (λ r. r .3) asking

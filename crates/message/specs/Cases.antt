@@ -1,0 +1,132 @@
+-- 01, "Recognising a message", in computed cases: ranges, version text, the results that the table allows, the data of the twelve messages,
+-- and the numbers 1 to 7 in their order. What a row says is written from 01. Assumes nothing.
+use Prim.Native.Nat.{ℕ, _+_}
+use mathlib.Core.Bool.{Bool, true, false}
+use mathlib.Core.List.{List, [], _∷_, _++_}
+use lib.ListN.{replicate}
+use Rattle.basis.specs.Cases.{Agree, allowed}
+use Rattle.message.specs.Limits.{sizeOk, totalOk, isWord}
+use Rattle.message.specs.Version.{goodVersion}
+use Rattle.message.specs.Messages.{DeviceMessage, query, announce, fragment, downloadReply, execute, resultReply, deviceCode, deviceData, deviceValid}
+use Rattle.message.specs.Messages.{GatewayMessage, queryReply, announceReply, fragmentRequest, downloadReport, executeReply, resultReport}
+use Rattle.message.specs.Messages.{gatewayCode, gatewayData, gatewayValid, installCode}
+use Rattle.message.specs.Recognition.{codeHolds, recognition}
+
+-- the version text "V" and a figure
+abbrev pub text : ℕ → List ℕ
+text n = 0x56 ∷ (0x30 + n) ∷ replicate 14 0x00
+
+-- a byte, so many times, and then 00 so many times
+abbrev padded : ℕ → ℕ → ℕ → List ℕ
+padded b n zeros = replicate n b ++ replicate zeros 0x00
+
+-- size, total, and any number as a WORD
+abbrev pub ranges : List (Bool × Bool)
+ranges =
+    (sizeOk 31, false) ∷ (sizeOk 32, true) ∷ (sizeOk 500, true) ∷ (sizeOk 501, false) ∷
+    (totalOk 0, false) ∷ (totalOk 1, true) ∷ (totalOk 65535, true) ∷ (totalOk 65536, false) ∷
+    (isWord 65535, true) ∷ (isWord 65536, false) ∷
+    []
+
+-- version text
+abbrev pub texts : List (List ℕ × Bool)
+texts =
+    (padded 0x20 1 15, true) ∷
+    (padded 0x7E 16 0, true) ∷
+    (padded 0x00 0 16, false) ∷  -- no byte of text
+    (padded 0x1F 1 15, false) ∷
+    (padded 0x7F 1 15, false) ∷
+    (padded 0x41 1 1 ++ padded 0x41 1 13, false) ∷  -- text behind 00
+    (padded 0x41 1 14 ++ padded 0x01 1 0, false) ∷  -- another byte behind 00
+    (padded 0x41 1 14, false) ∷  -- 15 bytes
+    (padded 0x41 1 16, false) ∷  -- 17 bytes
+    []
+
+-- the results that a message may carry, of all bytes
+abbrev pub results : List ((ℕ → Bool) × List ℕ)
+results =
+    ((λ (r : ℕ). deviceValid (fragment r 0 [])), 0x80 ∷ 0x81 ∷ []) ∷
+    ((λ (r : ℕ). deviceValid (fragment r 0 (0x41 ∷ []))), 0x00 ∷ []) ∷
+    ((λ (r : ℕ). deviceValid (downloadReply r)), 0x00 ∷ 0x80 ∷ []) ∷
+    ((λ (r : ℕ). deviceValid (resultReply r)), 0x00 ∷ 0x80 ∷ []) ∷
+    ((λ (r : ℕ). gatewayValid (queryReply r (text 1))), 0x00 ∷ []) ∷
+    ((λ (r : ℕ). gatewayValid (announceReply r)), 0x00 ∷ 0x01 ∷ 0x02 ∷ 0x03 ∷ 0x04 ∷ 0x05 ∷ 0x09 ∷ 0x7F ∷ []) ∷
+    ((λ (r : ℕ). gatewayValid (downloadReport r)), 0x00 ∷ 0x05 ∷ 0x06 ∷ 0x07 ∷ 0x08 ∷ []) ∷
+    ((λ (r : ℕ). gatewayValid (executeReply r)), 0x00 ∷ 0x01 ∷ 0x04 ∷ 0x05 ∷ 0x09 ∷ []) ∷
+    ((λ (r : ℕ). gatewayValid (resultReport r (text 1))), 0x00 ∷ 0x01 ∷ 0x04 ∷ 0x05 ∷ 0x09 ∷ 0x0A ∷ 0x7F ∷ []) ∷
+    (installCode, 0x00 ∷ 0x01 ∷ 0x04 ∷ 0x05 ∷ 0x09 ∷ 0x0A ∷ 0x7F ∷ []) ∷
+    ((λ (c : ℕ). codeHolds (0xFF ∷ 0xFE ∷ 0x01 ∷ c ∷ [])), 19 ∷ 20 ∷ 21 ∷ 22 ∷ 23 ∷ 24 ∷ []) ∷  -- and the codes
+    []
+
+-- the other fields, each out of its range alone
+abbrev pub fields : List (Bool × Bool)
+fields =
+    (deviceValid query, true) ∷
+    (deviceValid execute, true) ∷
+    (deviceValid (announce (record { version = text 1; size = 32; total = 1; code = 0 })), true) ∷
+    (deviceValid (announce (record { version = []; size = 32; total = 1; code = 0 })), false) ∷
+    (deviceValid (announce (record { version = text 1; size = 31; total = 1; code = 0 })), false) ∷
+    (deviceValid (announce (record { version = text 1; size = 32; total = 0; code = 0 })), false) ∷
+    (deviceValid (announce (record { version = text 1; size = 32; total = 1; code = 65536 })), false) ∷
+    (deviceValid (fragment 0x00 0 (replicate 500 0x41)), true) ∷
+    (deviceValid (fragment 0x00 0 (replicate 501 0x41)), false) ∷
+    (deviceValid (fragment 0x80 65536 []), false) ∷
+    (gatewayValid (queryReply 0x00 []), false) ∷
+    (gatewayValid (fragmentRequest (text 1) 65535), true) ∷
+    (gatewayValid (fragmentRequest [] 0), false) ∷
+    (gatewayValid (fragmentRequest (text 1) 65536), false) ∷
+    (gatewayValid (resultReport 0x00 []), false) ∷
+    []
+
+-- each message: its code, and then its data
+abbrev pub sentToDevice : List (DeviceMessage × List ℕ)
+sentToDevice =
+    (query, 19 ∷ []) ∷
+    (announce (record { version = text 1; size = 0x1F4; total = 0x102; code = 0x304 }), 20 ∷ (text 1 ++ (0x01 ∷ 0xF4 ∷ 0x01 ∷ 0x02 ∷ 0x03 ∷ 0x04 ∷ []))) ∷
+    (fragment 0x00 0x102 (0x41 ∷ 0x42 ∷ []), 21 ∷ 0x00 ∷ 0x01 ∷ 0x02 ∷ 0x41 ∷ 0x42 ∷ []) ∷
+    (fragment 0x81 0x102 [], 21 ∷ 0x81 ∷ 0x01 ∷ 0x02 ∷ []) ∷
+    (downloadReply 0x80, 22 ∷ 0x80 ∷ []) ∷
+    (execute, 23 ∷ []) ∷
+    (resultReply 0x80, 24 ∷ 0x80 ∷ []) ∷
+    []
+
+abbrev pub sentToGateway : List (GatewayMessage × List ℕ)
+sentToGateway =
+    (queryReply 0x00 (text 1), 19 ∷ 0x00 ∷ text 1) ∷
+    (announceReply 0x09, 20 ∷ 0x09 ∷ []) ∷
+    (fragmentRequest (text 1) 0x102, 21 ∷ (text 1 ++ (0x01 ∷ 0x02 ∷ []))) ∷
+    (downloadReport 0x07, 22 ∷ 0x07 ∷ []) ∷
+    (executeReply 0x04, 23 ∷ 0x04 ∷ []) ∷
+    (resultReport 0x0A (text 1), 24 ∷ 0x0A ∷ text 1) ∷
+    []
+
+-- upgrade supported, protocol is PCP, the bytes: the number
+abbrev pub recognised : List (Bool × Bool × List ℕ × ℕ)
+recognised =
+    (true, true, 0xFF ∷ 0xFE ∷ 0x01 ∷ 0x13 ∷ 0x4C ∷ 0x9A ∷ 0x00 ∷ 0x00 ∷ [], 0) ∷  -- 19 query, as published
+    (false, false, [], 1) ∷
+    (true, false, [], 2) ∷
+    (true, true, 0x00 ∷ 0xFE ∷ 0x02 ∷ 0x13 ∷ [], 3) ∷
+    (true, true, 0xFF ∷ 0x00 ∷ 0x02 ∷ 0x13 ∷ [], 3) ∷
+    (true, true, 0xFF ∷ 0xFE ∷ 0x02 ∷ 0x12 ∷ [], 4) ∷
+    (true, true, 0xFF ∷ 0xFE ∷ 0x01 ∷ 0x12 ∷ 0x00 ∷ 0x00 ∷ 0x00 ∷ 0x00 ∷ [], 5) ∷
+    (true, true, 0xFF ∷ 0xFE ∷ 0x01 ∷ 0x13 ∷ 0x00 ∷ 0x00 ∷ 0x00 ∷ 0x01 ∷ [], 6) ∷
+    (true, true, 0xFF ∷ 0xFE ∷ 0x01 ∷ 0x13 ∷ 0x5C ∷ 0xBB ∷ 0x00 ∷ 0x01 ∷ [], 7) ∷
+    (true, true, 0xFF ∷ 0xFE ∷ 0x01 ∷ 0x13 ∷ 0x22 ∷ 0xBF ∷ 0x00 ∷ 0x00 ∷ 0x00 ∷ [], 7) ∷
+    -- cut short: a message fails at the field that it cannot hold, and 4 to 7 bytes at the check
+    (true, true, [], 3) ∷
+    (true, true, 0xFF ∷ [], 3) ∷
+    (true, true, 0xFF ∷ 0xFE ∷ [], 4) ∷
+    (true, true, 0xFF ∷ 0xFE ∷ 0x01 ∷ [], 5) ∷
+    (true, true, 0xFF ∷ 0xFE ∷ 0x01 ∷ 0x13 ∷ [], 6) ∷
+    (true, true, 0xFF ∷ 0xFE ∷ 0x01 ∷ 0x13 ∷ 0x4C ∷ 0x9A ∷ 0x00 ∷ [], 6) ∷
+    []
+
+pub record MessageCases : Type 0 where
+  pub in-range : Agree (λ (r : Bool × Bool). r .0) (λ r. r .1) ranges
+  pub text-is : Agree (λ (r : List ℕ × Bool). goodVersion (r .0)) (λ r. r .1) texts
+  pub result-is : Agree (λ (r : (ℕ → Bool) × List ℕ). allowed (r .0)) (λ r. r .1) results
+  pub field-is : Agree (λ (r : Bool × Bool). r .0) (λ r. r .1) fields
+  pub device-data : Agree (λ (r : DeviceMessage × List ℕ). deviceCode (r .0) ∷ deviceData (r .0)) (λ r. r .1) sentToDevice
+  pub gateway-data : Agree (λ (r : GatewayMessage × List ℕ). gatewayCode (r .0) ∷ gatewayData (r .0)) (λ r. r .1) sentToGateway
+  pub number-is : Agree (λ (r : Bool × Bool × List ℕ × ℕ). recognition (r .0) (r .1) (r .2)) (λ r. r .3) recognised
