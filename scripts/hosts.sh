@@ -3,6 +3,20 @@
 archive=target/staticlib/libhost.a
 sanitizers=(-fsanitize=address,undefined -fno-sanitize-recover=all)
 
+# usage WORDS..: tells how a script is called, and ends it: status 2 is for wrong arguments alone.
+usage() {
+    echo "usage: $*" >&2
+    exit 2
+}
+
+# are_numbers TEXT..: whether each is a number, such that a program can take it.
+are_numbers() {
+    local text
+    for text; do
+        [[ $text =~ ^[0-9]{1,18}$ ]] || return 1
+    done
+}
+
 # need TOOL..: sees that each is there; its Debian package has the same name.
 need() {
     local tool missing=()
@@ -18,6 +32,24 @@ need() {
     fi
     apt-get update >&2
     DEBIAN_FRONTEND=noninteractive apt-get install -y "${missing[@]}" >&2
+}
+
+# for_each MOST COMMAND ARGUMENT..: runs the command on each argument, so many at once; $failed is how many failed. Each
+# job is waited for by its id, the oldest first: `wait -n` may take one of which nobody then learns how it ended.
+for_each() {
+    local most=$1 command=$2 argument job jobs=()
+    failed=0
+    for argument in "${@:3}"; do
+        if ((${#jobs[@]} == most)); then
+            wait "${jobs[0]}" || failed=$((failed + 1))
+            jobs=("${jobs[@]:1}")
+        fi
+        "$command" "$argument" &
+        jobs+=($!)
+    done
+    for job in "${jobs[@]}"; do
+        wait "$job" || failed=$((failed + 1))
+    done
 }
 
 # c_host SOURCE PROGRAM FLAG..: builds a C program that links the library.
