@@ -3,8 +3,6 @@
 //! for wrong arguments, and with 3 where the calls have not brought about all that can occur.
 
 mod calls;
-#[path = "../../hosts/rust/pcp.rs"]
-mod pcp;
 mod reading;
 mod support;
 
