@@ -2,8 +2,8 @@
 
 use crate::ends::{DeviceEnd, GatewayEnd, Library, Memory, Plain, Side};
 use crate::measure::{compare, timed, Times};
-use crate::pcp::{code, DEVICE_REPLY, GATEWAY_REPLY};
 use crate::upgrade::offered;
+use pcp::{Code, DEVICE_REPLY, GATEWAY_REPLY};
 use std::time::Duration;
 
 const ROUNDS: usize = 301;
@@ -89,7 +89,7 @@ fn fragment_messages(size: u16, package: &[u8]) -> Vec<Vec<u8>> {
 
 fn fragment_message(index: u16, data: &[u8]) -> Vec<u8> {
     let mut buffer = [0; GATEWAY_REPLY];
-    plain::message::write(&mut buffer, code::FRAGMENT, &[&[0x00], &index.to_be_bytes(), data]).to_vec()
+    plain::message::write(&mut buffer, Code::Fragment.into(), &[&[0x00], &index.to_be_bytes(), data]).to_vec()
 }
 
 /// A device to which a package was announced.

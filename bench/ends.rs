@@ -1,6 +1,6 @@
 //! The two sides that are compared, behind the same calls; and ends that record what a side answers, or replay it.
 
-use crate::pcp;
+use pcp::{Condition, Facts, InstallCode, Refusal};
 
 /// The version on the device, and that of the package.
 const RUNNING: &[u8] = b"V1.0";
@@ -31,7 +31,7 @@ pub fn fragments(size: u16, package: &[u8]) -> usize {
 pub trait DeviceEnd {
     fn receive<'a>(&'a mut self, message: &[u8], memory: &mut Memory, reply: &'a mut [u8]) -> Answer<'a>;
     fn next_message<'a>(&'a mut self, memory: &Memory, reply: &'a mut [u8]) -> Answer<'a>;
-    fn install_finished(&mut self, code: u8) -> Result<(), u8>;
+    fn install_finished(&mut self, code: InstallCode) -> Result<(), u8>;
 }
 
 pub trait GatewayEnd {
@@ -67,32 +67,35 @@ impl Side for Library {
     }
 }
 
-fn numbered<T>(result: Result<T, pcp::Refusal>) -> Result<T, u8> {
-    result.map_err(|refusal| refusal.0)
+/// Nothing to send is a number here, as plain Rust has it.
+fn asked(message: Result<Option<&[u8]>, Refusal>) -> Answer<'_> {
+    message.and_then(|message| message.ok_or(Refusal::NoUse)).map_err(u8::from)
 }
 
 impl DeviceEnd for pcp::Device {
     fn receive<'a>(&'a mut self, message: &[u8], memory: &mut Memory, reply: &'a mut [u8]) -> Answer<'a> {
-        let (facts, condition) = (pcp::Facts::BOTH, pcp::condition::READY);
-        numbered(self.receive(facts, condition, message, &mut memory.image, &mut memory.map, reply))
+        let (image, map) = (&mut memory.image, &mut memory.map);
+        let answer = self.receive(Facts::BOTH, Condition::Ready, message, image, map, reply);
+        answer.map(|answer| answer.reply.unwrap_or_default()).map_err(u8::from)
     }
 
     fn next_message<'a>(&'a mut self, memory: &Memory, reply: &'a mut [u8]) -> Answer<'a> {
-        numbered(pcp::Device::next_message(self, &memory.image, &memory.map, reply))
+        asked(pcp::Device::next_message(self, &memory.image, &memory.map, reply))
     }
 
-    fn install_finished(&mut self, code: u8) -> Result<(), u8> {
-        numbered(self.install_finished(code))
+    fn install_finished(&mut self, code: InstallCode) -> Result<(), u8> {
+        self.install_finished(code).map_err(u8::from)
     }
 }
 
 impl GatewayEnd for pcp::Gateway {
     fn receive<'a>(&'a mut self, message: &[u8], package: &[u8], reply: &'a mut [u8]) -> Answer<'a> {
-        numbered(self.receive(pcp::Facts::BOTH, message, package, reply))
+        let answer = self.receive(Facts::BOTH, message, package, reply);
+        answer.map(|answer| answer.reply.unwrap_or_default()).map_err(u8::from)
     }
 
     fn next_message<'a>(&'a mut self, package: &[u8], reply: &'a mut [u8]) -> Answer<'a> {
-        numbered(pcp::Gateway::next_message(self, package, reply))
+        asked(pcp::Gateway::next_message(self, package, reply))
     }
 }
 
@@ -126,7 +129,7 @@ fn filled_up(text: &[u8]) -> plain::message::Version {
 
 impl DeviceEnd for plain::Device {
     fn receive<'a>(&'a mut self, message: &[u8], memory: &mut Memory, reply: &'a mut [u8]) -> Answer<'a> {
-        let condition = pcp::condition::READY;
+        let condition = Condition::Ready.into();
         self.receive(BOTH_FACTS, condition, message, &mut memory.image, &mut memory.map, reply)
     }
 
@@ -134,8 +137,8 @@ impl DeviceEnd for plain::Device {
         plain::Device::next_message(self, &memory.image, &memory.map, reply)
     }
 
-    fn install_finished(&mut self, code: u8) -> Result<(), u8> {
-        self.install_finished(code)
+    fn install_finished(&mut self, code: InstallCode) -> Result<(), u8> {
+        self.install_finished(code.into())
     }
 }
 
@@ -178,7 +181,7 @@ impl<E: DeviceEnd> DeviceEnd for Recording<E> {
         kept(&mut self.answers, self.end.next_message(memory, reply))
     }
 
-    fn install_finished(&mut self, code: u8) -> Result<(), u8> {
+    fn install_finished(&mut self, code: InstallCode) -> Result<(), u8> {
         self.end.install_finished(code)
     }
 }
@@ -218,7 +221,7 @@ impl DeviceEnd for Replay<'_> {
         self.next()
     }
 
-    fn install_finished(&mut self, _: u8) -> Result<(), u8> {
+    fn install_finished(&mut self, _: InstallCode) -> Result<(), u8> {
         Ok(())
     }
 }

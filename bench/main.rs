@@ -1,9 +1,6 @@
 //! The speed of the library against plain Rust: see docs/BENCHMARKS.md. Before anything is timed, both have given the
 //! same results.
 
-#[path = "../hosts/rust/pcp.rs"]
-mod pcp;
-
 mod calls;
 mod ends;
 mod measure;

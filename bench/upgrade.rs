@@ -4,7 +4,7 @@ use crate::ends::{
     fragments, Answers, DeviceEnd, GatewayEnd, Library, Memory, Plain, Recording, Replay, Side,
 };
 use crate::measure::{compare, timed, Times};
-use crate::pcp::{install, Refusal, DEVICE_REPLY, GATEWAY_REPLY};
+use pcp::{InstallCode, Refusal, DEVICE_REPLY, GATEWAY_REPLY};
 use std::time::Duration;
 
 struct Link<'a, D, G> {
@@ -47,7 +47,7 @@ impl<'a, D: DeviceEnd, G: GatewayEnd> Link<'a, D, G> {
     /// The device is asked; its message and the reply arrive. No if it has nothing to send.
     fn device_speaks(&mut self) -> bool {
         let message = match self.device.next_message(self.memory, &mut self.from_device) {
-            Err(number) if number == Refusal::NO_USE.0 => return false,
+            Err(number) if number == Refusal::NoUse.into() => return false,
             message => message.expect("the device can be asked"),
         };
         let reply = self.gateway.receive(message, self.package, &mut self.from_gateway);
@@ -70,7 +70,7 @@ fn upgrade(device: &mut impl DeviceEnd, gateway: &mut impl GatewayEnd, package: 
     link.offer();
     while link.device_speaks() {}
     link.gateway_speaks();
-    link.device.install_finished(install::INSTALLED).expect("the device installs");
+    link.device.install_finished(InstallCode::Installed).expect("the device installs");
     assert!(link.device_speaks(), "the device reports");
 }
 

@@ -3,11 +3,33 @@
 archive=target/staticlib/libhost.a
 sanitizers=(-fsanitize=address,undefined -fno-sanitize-recover=all)
 
-# need TOOL..: sees that each is there; its Debian package has the same name.
+# usage WORDS..: tells how a script is called, and ends it: status 2 is for wrong arguments alone.
+usage() {
+    echo "usage: $*" >&2
+    exit 2
+}
+
+# are_numbers TEXT..: whether each is a number, such that a program can take it.
+are_numbers() {
+    local text
+    for text; do
+        [[ $text =~ ^[0-9]{1,18}$ ]] || return 1
+    done
+}
+
+# package_of TOOL: the Debian package that has it.
+package_of() {
+    case $1 in
+        cargo-clippy) echo rust-clippy ;;
+        *) echo "$1" ;;
+    esac
+}
+
+# need TOOL..: sees that each is there, and installs its Debian package where it is not.
 need() {
     local tool missing=()
     for tool; do
-        command -v "$tool" >/dev/null || missing+=("$tool")
+        command -v "$tool" >/dev/null || missing+=("$(package_of "$tool")")
     done
     if [ ${#missing[@]} -eq 0 ]; then
         return
@@ -18,6 +40,24 @@ need() {
     fi
     apt-get update >&2
     DEBIAN_FRONTEND=noninteractive apt-get install -y "${missing[@]}" >&2
+}
+
+# for_each MOST COMMAND ARGUMENT..: runs the command on each argument, so many at once; $failed is how many failed. Each
+# job is waited for by its id, the oldest first: `wait -n` may take one of which nobody then learns how it ended.
+for_each() {
+    local most=$1 command=$2 argument job jobs=()
+    failed=0
+    for argument in "${@:3}"; do
+        if ((${#jobs[@]} == most)); then
+            wait "${jobs[0]}" || failed=$((failed + 1))
+            jobs=("${jobs[@]:1}")
+        fi
+        "$command" "$argument" &
+        jobs+=($!)
+    done
+    for job in "${jobs[@]}"; do
+        wait "$job" || failed=$((failed + 1))
+    done
 }
 
 # c_host SOURCE PROGRAM FLAG..: builds a C program that links the library.
@@ -32,9 +72,22 @@ rust_program() {
     rustc --edition 2021 -C opt-level=3 -D warnings -o "target/hosts/$2" "$1" "${@:3}"
 }
 
-# rust_host SOURCE PROGRAM FLAG..: builds a Rust program that links the library.
+# wrapper: builds the crate of hosts/rust, without the archive: programs of tests link it, or something in its place.
+wrapper() {
+    rust_program hosts/rust/pcp.rs libpcp.rlib --crate-name pcp --crate-type rlib
+}
+
+# What a Rust program needs so that it finds this crate.
+with_wrapper=(--extern pcp=target/hosts/libpcp.rlib)
+
+# rust_host SOURCE PROGRAM FLAG..: builds a Rust program that links the library through this crate.
 rust_host() {
-    rust_program "$1" "$2" -L native=target/staticlib -l static=host "${@:3}"
+    rust_program "$1" "$2" "${with_wrapper[@]}" -C link-arg="$archive" "${@:3}"
+}
+
+# crate COMMAND FLAG..: cargo's command on the crate of hosts/rust, from what is here alone.
+crate() {
+    cargo "$1" --quiet --offline --locked --manifest-path hosts/rust/Cargo.toml --target-dir target/cargo "${@:2}"
 }
 
 # last_line PROGRAM ARGUMENT..: runs it and shows its last line, or all that it printed where it fails.

@@ -1,8 +1,8 @@
 //! `upgrade PACKAGE [SEED]` upgrades a simulated device from a package file, over a simulated link that loses, repeats,
 //! delays and reorders messages, and is down at times. The seed, a number, fixes what goes wrong.
 //!
-//! This is an example of both hosts of `pcp.rs`. Device and gateway know of each other only what the link brings. What
-//! a host has to do, and can be copied:
+//! This is an example of both hosts of the crate `pcp`. Device and gateway know of each other only what the link
+//! brings. What a host has to do, and can be copied:
 //!
 //! - `receive`: lend the buffers, send the reply, and ask at once if the record has changed
 //! - `ask`: send what the end has to send; by a timer, for a message may have been lost
@@ -12,10 +12,8 @@
 //!
 //! hosts/c/upgrade.c is the same program in C, and prints the same.
 
-mod pcp;
-
-use pcp::{code, condition, device_phase, ending, gateway_phase, install};
-use pcp::{Device, Facts, Gateway, Refusal, DEVICE_REPLY, GATEWAY_REPLY};
+use pcp::{Code, Condition, Device, DevicePhase, Ending, Facts, Gateway, GatewayPhase, InstallCode, Refusal};
+use pcp::{DeviceAnswer, DEVICE_REPLY, GATEWAY_REPLY};
 use std::fmt::Arguments;
 use std::fs::File;
 use std::io::{self, Read, Write};
@@ -80,8 +78,12 @@ impl fmt::Display for Failure {
         match self {
             Failure::Usage => write!(f, "usage: upgrade PACKAGE [SEED]"),
             Failure::Read(path, error) => write!(f, "upgrade: cannot read {}: {}", path, error),
-            Failure::Package(refusal) => write!(f, "upgrade: package refused with {}", refusal),
-            Failure::Call(call, refusal) => write!(f, "upgrade: {} refused with {}", call, refusal),
+            Failure::Package(refusal) => {
+                write!(f, "upgrade: package refused with {}, {}", u8::from(*refusal), refusal)
+            }
+            Failure::Call(call, refusal) => {
+                write!(f, "upgrade: {} refused with {}, {}", call, u8::from(*refusal), refusal)
+            }
         }
     }
 }
@@ -141,11 +143,7 @@ impl Link {
         }
     }
 
-    /// An empty message is none: calls without a reply give one.
     fn send(&mut self, now: Ticks, to: End, bytes: &[u8]) {
-        if bytes.is_empty() {
-            return;
-        }
         self.sent += 1;
         if now < self.down_until || self.random.once_in(LOST) {
             self.lost += 1;
@@ -173,18 +171,13 @@ impl Link {
     }
 }
 
-/// Bytes from the air can be refused with any of 1 to 12, and an end that is asked can have nothing to send; both are
-/// no concern. A higher number means that this program lends or states something wrong, and going on would not mend it.
+/// Bytes from the air can be of no use, which is no concern. But if this program lends or states something wrong, going
+/// on would not mend it.
 fn expected<T>(call: &'static str, answer: Result<T, Refusal>) -> Result<Option<T>, Failure> {
     match answer {
-        Err(refusal) if refusal.0 >= Refusal::UNKNOWN_CONDITION.0 => Err(Failure::Call(call, refusal)),
+        Err(refusal) if refusal.is_hosts_fault() => Err(Failure::Call(call, refusal)),
         answer => Ok(answer.ok()),
     }
-}
-
-/// A message's code; 0 if it is too short to have one.
-fn code_of(message: &[u8]) -> u8 {
-    message.get(3).copied().unwrap_or(0)
 }
 
 /// The first byte of a message's data: most answers are nothing else.
@@ -225,64 +218,67 @@ impl DeviceHost {
     }
 
     /// A device would look at its battery, its signal and its own work.
-    fn condition(&mut self) -> u8 {
+    fn condition(&mut self) -> Condition {
         if self.random.once_in(BUSY) {
-            condition::BUSY
+            Condition::Busy
         } else {
-            condition::READY
+            Condition::Ready
         }
     }
 
-    /// The phase is looked at only when the call was not refused: a record that was may be none. A device that is to
-    /// go on after a restart would save record, image and map before it sends the reply. Only a changed record is a
-    /// reason to ask at once: a host that asked after every arrival would double all that follows a repeated message.
+    /// A device that is to go on after a restart would save record, image and map before it sends the reply. Only a
+    /// changed record is a reason to ask at once: a host that asked after every arrival would double all that follows a
+    /// repeated message.
     fn receive(&mut self, link: &mut Link, now: Ticks, message: &[u8]) -> Result<(), Failure> {
-        let before = self.device.clone();
         let condition = self.condition();
         let mut reply = [0; DEVICE_REPLY];
         let (image, map) = (&mut self.image, &mut self.map);
         let answer = self.device.receive(Facts::BOTH, condition, message, image, map, &mut reply);
-        self.count(&before, message, answer);
-        let reply = match expected("Device::receive", answer)? {
-            Some(reply) => reply,
+        self.repeated += u64::from(answer == Err(Refusal::AlreadyStored));
+        let answer = match expected("Device::receive", answer)? {
+            Some(answer) => answer,
             None => return Ok(()),
         };
-        link.send(now, End::Gateway, reply);
-        if self.device != before {
+        self.count(message, &answer);
+        if let Some(reply) = answer.reply {
+            link.send(now, End::Gateway, reply);
+        }
+        if answer.changed {
             self.ask_at = now;
         }
-        if self.device.phase() == device_phase::INSTALLING {
+        if self.device.phase() == DevicePhase::Installing {
             self.install(now)?;
         }
         Ok(())
     }
 
     /// For the account. An offer that was accepted and changed nothing is a resume.
-    fn count(&mut self, before: &Device, message: &[u8], answer: Result<&[u8], Refusal>) {
-        let accepted = answer.ok().and_then(result_of) == Some(0x00);
-        self.stored += u64::from(self.device.stored() > before.stored());
-        self.repeated += u64::from(answer == Err(Refusal::ALREADY_STORED));
-        self.resumes += u64::from(code_of(message) == code::ANNOUNCE && accepted && self.device == *before);
+    fn count(&mut self, message: &[u8], answer: &DeviceAnswer) {
+        let accepted = answer.reply.and_then(result_of) == Some(0x00);
+        let resumed = Code::of(message) == Some(Code::Announce) && accepted && !answer.changed;
+        self.stored += u64::from(answer.written.is_some());
+        self.resumes += u64::from(resumed);
     }
 
     /// Asking changes nothing, so it is done again until an answer has come.
     fn ask(&mut self, link: &mut Link, now: Ticks) -> Result<(), Failure> {
         let mut reply = [0; DEVICE_REPLY];
         let answer = self.device.next_message(&self.image, &self.map, &mut reply);
-        link.send(now, End::Gateway, expected("Device::next_message", answer)?.unwrap_or_default());
+        if let Some(message) = expected("Device::next_message", answer)?.flatten() {
+            link.send(now, End::Gateway, message);
+        }
         self.ask_at = now + RETRY;
         Ok(())
     }
 
-    /// Begun once, whatever arrives meanwhile. A real installer copies the first `image_length` bytes of the image to
-    /// where they run. In Installing the library no longer compares that length with the image, so this is done here: a
-    /// longer one can only stand in a record that somebody else wrote.
+    /// Begun once, whatever arrives meanwhile. A real installer copies what `to_install` gives to where it runs. That
+    /// there is nothing can only be where somebody else wrote the record.
     fn install(&mut self, now: Ticks) -> Result<(), Failure> {
         if self.installed_at.is_some() {
             return Ok(());
         }
-        if self.device.image_length() > self.image.len() {
-            return Err(Failure::Call("Device::image_length", Refusal::BAD_RECORD));
+        if self.device.to_install(&self.image).is_none() {
+            return Err(Failure::Call("Device::to_install", Refusal::BadRecord));
         }
         self.installed_at = Some(now + INSTALLATION);
         Ok(())
@@ -290,7 +286,7 @@ impl DeviceHost {
 
     fn installed(&mut self, now: Ticks) -> Result<(), Failure> {
         self.installed_at = None;
-        expected("Device::install_finished", self.device.install_finished(install::INSTALLED))?;
+        expected("Device::install_finished", self.device.install_finished(InstallCode::Installed))?;
         self.ask_at = now; // the report
         Ok(())
     }
@@ -306,9 +302,7 @@ impl DeviceHost {
     }
 
     fn runs_target(&self) -> bool {
-        let running = self.device.running();
-        let (text, rest) = running.split_at(TARGET.len());
-        text == TARGET.as_bytes() && rest.iter().all(|byte| *byte == 0)
+        self.device.running().as_str() == TARGET
     }
 
     fn image_is(&self, package: &[u8]) -> bool {
@@ -356,12 +350,8 @@ impl<'a> GatewayHost<'a> {
         })
     }
 
-    fn has_ended(&self) -> bool {
-        self.gateway.phase() == gateway_phase::ENDED
-    }
-
     fn has_succeeded(&self) -> bool {
-        self.has_ended() && [ending::SUCCESS, ending::ALREADY_RUNNING].contains(&self.gateway.ending())
+        self.gateway.ending().map_or(false, Ending::is_success)
     }
 
     /// Whether the gateway is to get this message. Before its offer is accepted, and when it is over, it would tell a
@@ -371,11 +361,11 @@ impl<'a> GatewayHost<'a> {
     /// answer lets it rest.
     fn wants(&self, message: &[u8]) -> bool {
         let at_work = self.over_at.is_none();
-        let serves = at_work && [gateway_phase::SERVE, gateway_phase::RUN].contains(&self.gateway.phase());
-        match code_of(message) {
-            code::UPGRADE_RESULT => true,
-            code::FRAGMENT => serves,
-            code::DOWNLOAD_RESULT => serves || self.gateway.ending() == ending::DOWNLOAD_FAILED,
+        let serves = at_work && matches!(self.gateway.phase(), GatewayPhase::Serve | GatewayPhase::Run);
+        match Code::of(message) {
+            Some(Code::UpgradeResult) => true,
+            Some(Code::Fragment) => serves,
+            Some(Code::DownloadResult) => serves || self.gateway.ending() == Some(Ending::DownloadFailed),
             _ => at_work,
         }
     }
@@ -384,16 +374,18 @@ impl<'a> GatewayHost<'a> {
         if !self.wants(message) {
             return Ok(());
         }
-        let before = self.gateway.clone();
         let mut reply = [0; GATEWAY_REPLY];
         let answer = self.gateway.receive(Facts::BOTH, message, self.package, &mut reply);
-        let reply = match expected("Gateway::receive", answer)? {
-            Some(reply) => reply,
+        let answer = match expected("Gateway::receive", answer)? {
+            Some(answer) => answer,
             None => return Ok(()),
         };
-        link.send(now, End::Device, reply);
-        self.handled(now, message, reply);
-        if self.gateway != before {
+        self.handled(now, message);
+        if let Some(reply) = answer.reply {
+            self.requests += 1;
+            link.send(now, End::Device, reply);
+        }
+        if answer.changed {
             self.changed(now, message);
         }
         Ok(())
@@ -402,50 +394,42 @@ impl<'a> GatewayHost<'a> {
     /// Before the offer the gateway waits until what the device sent earlier, of its own accord, has arrived: in Serve
     /// or Run it would count for this upgrade.
     fn changed(&mut self, now: Ticks, message: &[u8]) {
-        let offers = self.gateway.phase() == gateway_phase::OFFER;
+        let offers = self.gateway.phase() == GatewayPhase::Offer;
         self.ask_at = if offers { now + QUIET } else { now };
-        if self.has_ended() {
-            self.ended(now, message);
+        if let Some(ending) = self.gateway.ending() {
+            self.ended(now, ending, message);
         }
     }
 
-    fn handled(&mut self, now: Ticks, message: &[u8], reply: &[u8]) {
+    fn handled(&mut self, now: Ticks, message: &[u8]) {
         self.heard_at = now;
-        self.requests += u64::from(!reply.is_empty());
-        self.executing |= code_of(message) == code::EXECUTE;
+        self.executing |= Code::of(message) == Some(Code::Execute);
     }
 
-    fn ended(&mut self, now: Ticks, message: &[u8]) {
-        let meaning = [
-            "success",
-            "the version is running already",
-            "offer refused",
-            "download failed",
-            "execution refused",
-            "installation failed",
-        ];
-        let ending = self.gateway.ending();
+    fn ended(&mut self, now: Ticks, ending: Ending, message: &[u8]) {
         self.over_at = Some(now);
         tell(format_args!(
             "tick {}: gateway {} ended with {}, {}; the device said {:02X}",
             now,
             self.started,
+            u8::from(ending),
             ending,
-            meaning[usize::from(ending)],
             result_of(message).unwrap_or_default()
         ));
     }
 
     fn stands_still(&mut self, now: Ticks) {
-        let phase = ["Ask", "Offer", "Serve", "Run"][usize::from(self.gateway.phase())];
+        let phase = self.gateway.phase();
         self.over_at = Some(now);
-        tell(format_args!("tick {}: gateway {} stands still in {}", now, self.started, phase));
+        tell(format_args!("tick {}: gateway {} stands still in {:?}", now, self.started, phase));
     }
 
     fn ask(&mut self, link: &mut Link, now: Ticks) -> Result<(), Failure> {
         let mut reply = [0; GATEWAY_REPLY];
         let answer = self.gateway.next_message(self.package, &mut reply);
-        link.send(now, End::Device, expected("Gateway::next_message", answer)?.unwrap_or_default());
+        if let Some(message) = expected("Gateway::next_message", answer)?.flatten() {
+            link.send(now, End::Device, message);
+        }
         self.ask_at = now + RETRY;
         Ok(())
     }
@@ -459,7 +443,7 @@ impl<'a> GatewayHost<'a> {
         if self.fruitless == MOST_FRUITLESS {
             return Ok(false);
         }
-        if self.gateway.phase() == gateway_phase::SERVE && self.requests == 0 {
+        if self.gateway.phase() == GatewayPhase::Serve && self.requests == 0 {
             self.size = if self.size == FRAGMENT_SIZE { OTHER_FRAGMENT_SIZE } else { FRAGMENT_SIZE };
         }
         self.gateway = start(self.size, self.package)?;
@@ -505,7 +489,7 @@ fn upgrade(device: &mut DeviceHost, gateway: &mut GatewayHost, link: &mut Link) 
         if !gateway.tick(link, now)? {
             return Ok(false);
         }
-        if gateway.has_succeeded() && device.device.phase() == device_phase::IDLE {
+        if gateway.has_succeeded() && device.device.phase() == DevicePhase::Idle {
             return Ok(true);
         }
     }

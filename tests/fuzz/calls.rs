@@ -5,8 +5,6 @@
 
 #[path = "../rust/calls/mod.rs"]
 mod calls;
-#[path = "../../hosts/rust/pcp.rs"]
-mod pcp;
 #[path = "../rust/reading/mod.rs"]
 mod reading;
 #[path = "../rust/support/mod.rs"]

@@ -1,10 +1,8 @@
 //! `differential [SEED [CALLS]]` makes random runs of both ends through the library's exports, and compares each call
-//! with the reading: number, reply, records, image and map, whole. It fails at the first difference, and where the
-//! calls have not brought about all that can occur.
+//! with the reading: number, reply, records, image and map, whole. It ends with status 1 at the first difference, with 2
+//! for wrong arguments, and with 3 where the calls have not brought about all that can occur.
 
 mod calls;
-#[path = "../../hosts/rust/pcp.rs"]
-mod pcp;
 mod reading;
 mod support;
 
@@ -16,6 +14,11 @@ use support::random::Random;
 
 const DEFAULT_SEED: u64 = 1;
 const DEFAULT_CALLS: u64 = 1_200_000;
+
+/// The program's exit statuses; 0 where all is as it should be.
+const DIFFERENT: i32 = 1;
+const WRONG_ARGUMENTS: i32 = 2;
+const COVERAGE_NOT_MET: i32 = 3;
 
 /// Few runs are long: they take most of the time.
 fn scale_of(run: u64) -> Scale {
@@ -54,7 +57,7 @@ fn arguments() -> Option<(u64, u64)> {
 pub fn main() {
     let (seed, calls) = arguments().unwrap_or_else(|| {
         eprintln!("usage: differential [SEED [CALLS]]");
-        process::exit(2);
+        process::exit(WRONG_ARGUMENTS);
     });
     let mut comparison = Comparison::new(seed);
     let mut coverage = Coverage::default();
@@ -62,13 +65,17 @@ pub fn main() {
     if let Err(difference) = compare(&mut comparison, &mut coverage, calls) {
         print!("{difference}");
         println!("differential: different at call {}", comparison.calls);
-        process::exit(1);
+        process::exit(DIFFERENT);
     }
     let not_met = coverage.not_met();
     print!("{}", coverage.summary());
     println!("differential: {} calls in {} runs, 0 different", comparison.calls, comparison.run);
     if !not_met.is_empty() {
         println!("differential: never met: {}", not_met.join("; "));
-        process::exit(1);
+        println!(
+            "differential: no difference, but {} cases were never met: it takes more calls",
+            not_met.len()
+        );
+        process::exit(COVERAGE_NOT_MET);
     }
 }

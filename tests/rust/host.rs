@@ -2,9 +2,6 @@
 //! code with it, on printed, faulty, damaged and random messages. The inputs are the same in every
 //! run.
 
-#[path = "../../hosts/rust/pcp.rs"]
-mod pcp;
-
 use pcp::raw as library;
 use std::fmt::UpperHex;
 use std::process::ExitCode;
@@ -127,7 +124,7 @@ impl Run {
         let number = self.model.recognise(supported, pcp, input);
         self.same("check", library::check(input), check, input);
         self.same("message check", library::message_check(input), message_check, input);
-        self.same("recognition", library::recognise(supported, pcp, input), number, input);
+        self.same("recognition", library::recognise([supported, pcp], input), number, input);
         self.compared += 1;
         number
     }

@@ -1,19 +1,18 @@
 //! `manual MANUAL HEADER` carries out the worked exchange of docs/MANUAL.md through the library, and compares each line
-//! of it with what the library gives. It also sees that the manual's tables have every constant of include/pcp.h, with
-//! its value. What else the manual says is not tested here.
+//! of it with what the library gives. It also sees that the manual's tables and the wrapper for Rust have every constant
+//! of include/pcp.h, with its value. What else the manual says is not tested here.
 //!
 //! The exchange is what stands in the blocks marked `exchange`, in their order. A step is a line that begins with a
 //! call (`Exchange::step` knows them all) and the indented lines behind it. The number of blanks is free.
 
-#[path = "../../hosts/rust/pcp.rs"]
-mod pcp;
 mod reading;
 mod support;
 
-use pcp::{condition, device_phase, ending, gateway_phase};
-use pcp::{Device, Facts, Gateway, Refusal, DEVICE_REPLY, GATEWAY_REPLY};
+use pcp::{Code, Condition, Device, DevicePhase, Ending, Facts, Gateway, GatewayPhase, InstallCode, Refusal};
+use pcp::{DEVICE_RECORD, DEVICE_REPLY, GATEWAY_RECORD, GATEWAY_REPLY, VERSION_LENGTH};
 use reading::replay::hex;
 use std::collections::{BTreeMap, BTreeSet};
+use std::fmt::Debug;
 use std::process::ExitCode;
 use std::str::FromStr;
 use std::{env, fs};
@@ -24,9 +23,6 @@ const ERASED: u8 = 0xFF;
 
 /// How many bytes of the image stand in a line.
 const IMAGE_LINE: usize = 32;
-
-const DEVICE_PHASES: [&str; 7] = ["Idle", "Loading", "Loaded", "Acked", "Failed", "Installing", "Reporting"];
-const GATEWAY_PHASES: [&str; 5] = ["Ask", "Offer", "Serve", "Run", "Ended"];
 
 /// How a field of a record is shown.
 #[derive(Clone, Copy)]
@@ -102,7 +98,17 @@ fn image_change(before: &[u8], now: &[u8]) -> Option<String> {
 }
 
 fn number_of<T>(answer: &Result<T, Refusal>) -> u8 {
-    answer.as_ref().err().map_or(0, |refusal| refusal.0)
+    answer.as_ref().err().map_or(0, |refusal| u8::from(*refusal))
+}
+
+/// Nothing to send has a number in the manual, as it has in C.
+fn asked(answer: Result<Option<&[u8]>, Refusal>) -> Result<&[u8], Refusal> {
+    answer.and_then(|message| message.ok_or(Refusal::NoUse))
+}
+
+/// The value that the wrapper has for a byte.
+fn value_of<T: TryFrom<u8>>(byte: u8) -> Result<T, String> {
+    T::try_from(byte).map_err(|_| format!("the wrapper does not know {:02X} here", byte))
 }
 
 fn number_in<T: FromStr>(word: &str) -> Result<T, String> {
@@ -117,7 +123,7 @@ enum End {
 
 /// What a step shows: the number and the phase after it, and its lines.
 struct Shown {
-    outcome: Option<(u8, &'static str)>,
+    outcome: Option<(u8, String)>,
     lines: Vec<String>,
 }
 
@@ -132,14 +138,14 @@ struct Exchange {
 }
 
 impl Exchange {
-    /// Before they are made, the ends have records that every call refuses.
+    /// Before the manual makes them, the ends are of a version that it does not name.
     fn new() -> Exchange {
         Exchange {
             package: Vec::new(),
-            device: Device::from_record([0; pcp::DEVICE_RECORD]),
+            device: Device::new(b"-").expect("a version text"),
             image: Vec::new(),
             map: Vec::new(),
-            gateway: Gateway::from_record([0; pcp::GATEWAY_RECORD]),
+            gateway: Gateway::start(b"-", 32, b"-", false).expect("a package"),
             air: Vec::new(),
         }
     }
@@ -153,13 +159,14 @@ impl Exchange {
                 self.map = vec![ERASED; number_in(map)?];
                 self.make_device(version)
             }
-            ["device", "<-", message] => self.device_receive(message, condition::READY),
+            ["device", "<-", message] => self.device_receive(message, Condition::Ready),
             ["device", "<-", message, "condition", condition] => {
-                self.device_receive(message, number_in(condition)?)
+                self.device_receive(message, value_of(number_in(condition)?)?)
             }
             ["device", "ask"] => Ok(self.device_ask()),
             ["device", "install", code] => {
-                Ok(self.install(u8::from_str_radix(code, 16).map_err(|_| format!("{} is no code", code))?))
+                let code = u8::from_str_radix(code, 16).map_err(|_| format!("{} is no code", code))?;
+                Ok(self.install(value_of(code)?))
             }
             ["device", "record"] => Ok(only(record_line(self.device.record(), &DEVICE_FIELDS))),
             ["device", "map"] => Ok(only(hex(&self.map))),
@@ -193,14 +200,14 @@ impl Exchange {
         Ok(self.gateway_shown(0, Vec::new()))
     }
 
-    fn device_receive(&mut self, message: &str, condition: u8) -> Result<Shown, String> {
+    fn device_receive(&mut self, message: &str, condition: Condition) -> Result<Shown, String> {
         let message = self.message(message, End::Gateway)?;
         let (record, image, map) = (*self.device.record(), self.image.clone(), self.map.clone());
         let mut reply = [0; DEVICE_REPLY];
         let answer =
             self.device.receive(Facts::BOTH, condition, &message, &mut self.image, &mut self.map, &mut reply);
         let number = number_of(&answer);
-        let mut lines = put_on_air(&mut self.air, End::Device, answer);
+        let mut lines = put_on_air(&mut self.air, End::Device, answer.ok().and_then(|answer| answer.reply));
         let mut changed = changes(&record, self.device.record(), &DEVICE_FIELDS);
         if map != self.map {
             changed.push(format!("map {}", hex(&self.map)));
@@ -212,13 +219,13 @@ impl Exchange {
 
     fn device_ask(&mut self) -> Shown {
         let mut reply = [0; DEVICE_REPLY];
-        let answer = self.device.next_message(&self.image, &self.map, &mut reply);
+        let answer = asked(self.device.next_message(&self.image, &self.map, &mut reply));
         let number = number_of(&answer);
-        let lines = put_on_air(&mut self.air, End::Device, answer);
+        let lines = put_on_air(&mut self.air, End::Device, answer.ok());
         self.device_shown(number, lines)
     }
 
-    fn install(&mut self, code: u8) -> Shown {
+    fn install(&mut self, code: InstallCode) -> Shown {
         let before = *self.device.record();
         let number = number_of(&self.device.install_finished(code));
         let changed = changes(&before, self.device.record(), &DEVICE_FIELDS);
@@ -231,16 +238,16 @@ impl Exchange {
         let mut reply = [0; GATEWAY_REPLY];
         let answer = self.gateway.receive(Facts::BOTH, &message, &self.package, &mut reply);
         let number = number_of(&answer);
-        let mut lines = put_on_air(&mut self.air, End::Gateway, answer);
+        let mut lines = put_on_air(&mut self.air, End::Gateway, answer.ok().and_then(|answer| answer.reply));
         lines.extend(changed_line(changes(&before, self.gateway.record(), &GATEWAY_FIELDS)));
         Ok(self.gateway_shown(number, lines))
     }
 
     fn gateway_ask(&mut self) -> Shown {
         let mut reply = [0; GATEWAY_REPLY];
-        let answer = self.gateway.next_message(&self.package, &mut reply);
+        let answer = asked(self.gateway.next_message(&self.package, &mut reply));
         let number = number_of(&answer);
-        let lines = put_on_air(&mut self.air, End::Gateway, answer);
+        let lines = put_on_air(&mut self.air, End::Gateway, answer.ok());
         self.gateway_shown(number, lines)
     }
 
@@ -256,18 +263,18 @@ impl Exchange {
     }
 
     fn device_shown(&self, number: u8, lines: Vec<String>) -> Shown {
-        Shown { outcome: Some((number, DEVICE_PHASES[usize::from(self.device.phase())])), lines }
+        Shown { outcome: Some((number, format!("{:?}", self.device.phase()))), lines }
     }
 
     fn gateway_shown(&self, number: u8, lines: Vec<String>) -> Shown {
-        Shown { outcome: Some((number, GATEWAY_PHASES[usize::from(self.gateway.phase())])), lines }
+        Shown { outcome: Some((number, format!("{:?}", self.gateway.phase()))), lines }
     }
 
     /// The upgrade has come to its end: the manual shows a whole one.
     fn is_complete(&self) -> bool {
-        let ended = self.gateway.phase() == gateway_phase::ENDED && self.gateway.ending() == ending::SUCCESS;
+        let ended = self.gateway.ending() == Some(Ending::Success);
         let installed =
-            self.device.phase() == device_phase::IDLE && self.device.running() == self.device.target();
+            self.device.phase() == DevicePhase::Idle && self.device.running() == self.gateway.target();
         let image = self.image.get(..self.device.image_length());
         ended && installed && image == Some(&self.package)
     }
@@ -290,13 +297,13 @@ fn hex_message(word: &str) -> Result<Vec<u8>, String> {
 }
 
 /// A message that a call gave is the next on the air; its line says which.
-fn put_on_air(air: &mut Vec<(End, Vec<u8>)>, end: End, answer: Result<&[u8], Refusal>) -> Vec<String> {
-    match answer {
-        Ok(message) if !message.is_empty() => {
+fn put_on_air(air: &mut Vec<(End, Vec<u8>)>, end: End, message: Option<&[u8]>) -> Vec<String> {
+    match message {
+        Some(message) => {
             air.push((end, message.to_vec()));
             vec![format!("#{} {}", air.len(), hex(message))]
         }
-        _ => Vec::new(),
+        None => Vec::new(),
     }
 }
 
@@ -325,7 +332,7 @@ fn steps(manual: &str) -> Vec<Step> {
 
 /// The lines that the library gives for a step.
 fn given(call: &str, shown: &Shown) -> Vec<String> {
-    let first = match shown.outcome {
+    let first = match &shown.outcome {
         Some((number, phase)) => format!("{} | {} | {}", call, number, phase),
         None => call.to_string(),
     };
@@ -341,7 +348,7 @@ fn carry_out(manual: &str) -> Result<usize, String> {
     for step in &steps {
         let call = step.lines[0].split(" | ").next().unwrap_or_default();
         let shown = exchange.step(call).map_err(|error| format!("line {}: {}", step.at, error))?;
-        numbers.extend(shown.outcome.map(|(number, _)| number));
+        numbers.extend(shown.outcome.iter().map(|(number, _)| *number));
         let lines = given(call, &shown);
         if lines != step.lines {
             different += 1;
@@ -373,13 +380,71 @@ fn tabled(manual: &str) -> BTreeMap<&str, &str> {
     pairs.filter(|(name, _)| name.starts_with("PCP_")).collect()
 }
 
-fn compare_constants(manual: &str, header: &str) -> Result<usize, String> {
-    let (constants, tabled) = (constants(header), tabled(manual));
-    let names: BTreeSet<&str> = constants.keys().chain(tabled.keys()).copied().collect();
-    match names.iter().find(|name| constants.get(*name) != tabled.get(*name)) {
-        Some(name) => Err(format!("{} differs from the header", name)),
-        None => Ok(names.len()),
+/// The values that the wrapper has for bytes, by the names that the header would give them.
+fn values<T: TryFrom<u8> + Debug>(prefix: &str) -> Vec<(String, usize)> {
+    let values = (0..=255).filter_map(|byte| Some((byte, T::try_from(byte).ok()?)));
+    values.map(|(byte, value)| (prefix.to_string() + &in_capitals(&value), byte.into())).collect()
+}
+
+/// `BadStart` as `BAD_START`.
+fn in_capitals(value: &impl Debug) -> String {
+    let mut name = String::new();
+    for letter in format!("{:?}", value).chars() {
+        if letter.is_uppercase() && !name.is_empty() {
+            name.push('_');
+        }
+        name.push(letter.to_ascii_uppercase());
     }
+    name
+}
+
+/// The wrapper's constants. 0 is no refusal there, so that its two names are not; and one name is shorter in C.
+fn wrapped() -> BTreeMap<String, usize> {
+    let lengths = [
+        ("PCP_HANDLED", 0),
+        ("PCP_RECOGNISED", 0),
+        ("PCP_DEVICE_RECORD", DEVICE_RECORD),
+        ("PCP_GATEWAY_RECORD", GATEWAY_RECORD),
+        ("PCP_DEVICE_REPLY", DEVICE_REPLY),
+        ("PCP_GATEWAY_REPLY", GATEWAY_REPLY),
+        ("PCP_VERSION_LENGTH", VERSION_LENGTH),
+    ];
+    let values = [
+        values::<Refusal>("PCP_"),
+        values::<Code>("PCP_"),
+        values::<Condition>("PCP_"),
+        values::<DevicePhase>("PCP_DEVICE_"),
+        values::<GatewayPhase>("PCP_GATEWAY_"),
+        values::<InstallCode>("PCP_INSTALL_"),
+        values::<Ending>("PCP_ENDING_"),
+    ];
+    let lengths = lengths.iter().map(|(name, value)| (name.to_string(), *value));
+    let pairs = lengths.chain(values.concat());
+    pairs.map(|(name, value)| (name.replace("INSTALL_INSTALLED", "INSTALLED"), value)).collect()
+}
+
+fn value_in(text: &str) -> Option<usize> {
+    match text.strip_prefix("0x") {
+        Some(digits) => usize::from_str_radix(digits, 16).ok(),
+        None => text.parse().ok(),
+    }
+}
+
+/// The manual's and the wrapper's constants are those of the header.
+fn compare_constants(manual: &str, header: &str) -> Result<usize, String> {
+    let (constants, tabled, wrapped) = (constants(header), tabled(manual), wrapped());
+    let names: BTreeSet<&str> =
+        constants.keys().chain(tabled.keys()).copied().chain(wrapped.keys().map(String::as_str)).collect();
+    for name in &names {
+        let value = constants.get(name).copied();
+        if tabled.get(name).copied() != value {
+            return Err(format!("{} differs from the header", name));
+        }
+        if wrapped.get(*name).copied() != value.and_then(value_in) {
+            return Err(format!("{} differs between the wrapper and the header", name));
+        }
+    }
+    Ok(names.len())
 }
 
 fn run() -> Result<String, String> {
@@ -392,7 +457,7 @@ fn run() -> Result<String, String> {
     let (manual, header) = (read(manual)?, read(header)?);
     let steps = carry_out(&manual)?;
     let constants = compare_constants(&manual, &header)?;
-    Ok(format!("{} steps and {} constants, as the library and its header have them", steps, constants))
+    Ok(format!("{} steps and {} constants, as library, header and wrapper have them", steps, constants))
 }
 
 fn main() -> ExitCode {

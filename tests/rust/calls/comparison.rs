@@ -1,9 +1,11 @@
-//! One call made at the library and at the reading, from the same memory; result and memory are compared whole.
+//! One call made at the reading, at the library's exports, and by the types for Rust hosts, from the same memory; result
+//! and memory are compared whole.
 
 use super::library::Library;
 use super::run::Run;
+use super::wrapper::Wrapper;
 use super::{Call, Lent, Memory};
-use crate::reading::boundary::Reading;
+use crate::reading::boundary::{Boundary, Reading};
 use crate::reading::replay::hex;
 use std::fmt::Write;
 use std::sync::atomic::{AtomicPtr, Ordering};
@@ -17,10 +19,11 @@ pub struct Comparison {
     call: Call,
     lent: Lent,
     before: Memory,
-    library: Memory,
+    /// What the call of the side that is compared has left.
+    side: Memory,
 }
 
-/// A call that both sides answered in the same way.
+/// A call that all sides answered in the same way.
 pub struct Made<'a> {
     pub call: Call,
     pub result: u32,
@@ -37,25 +40,39 @@ impl Comparison {
             call: Call::Check,
             lent: Lent { record: 0, image: 0, map: 0, package: 0, reply: 0 },
             before: Memory::default(),
-            library: Memory::default(),
+            side: Memory::default(),
         }
     }
 
-    /// Makes the run's next call on both sides, and shows it to the observer. A difference is described.
+    /// Makes the run's next call on all sides, and shows it to the observer. A difference is described.
     pub fn step(&mut self, run: &mut Run, observe: impl FnOnce(Made)) -> Result<(), String> {
         self.calls += 1;
         let (call, lent) = run.next_call();
         (self.call, self.lent) = (call, lent);
         self.before.copy_from(&run.memory);
-        self.library.copy_from(&run.memory);
         let result = call.make(&Reading, &lent, &mut run.memory);
-        let got = call.make(&Library, &lent, &mut self.library);
-        if got != result || self.library != run.memory {
-            return Err(self.described() + &self.differences(got, result, &run.memory));
-        }
+        self.compare("library", &Library, result, &run.memory)?;
+        self.compare("wrapper", &Wrapper, result, &run.memory)?;
         observe(Made { call, result, before: &self.before, after: &run.memory });
         run.called(call, result);
         Ok(())
+    }
+
+    /// Makes the call at work on this side too.
+    fn compare(
+        &mut self,
+        name: &str,
+        side: &impl Boundary,
+        expected: u32,
+        reading: &Memory,
+    ) -> Result<(), String> {
+        self.side.copy_from(&self.before);
+        let got = self.call.make(side, &self.lent, &mut self.side);
+        if got == expected && self.side == *reading {
+            Ok(())
+        } else {
+            Err(self.described() + &self.differences(name, got, expected, reading))
+        }
     }
 
     /// The call with all that it was given.
@@ -69,13 +86,13 @@ impl Comparison {
         text
     }
 
-    fn differences(&self, got: u32, expected: u32, reading: &Memory) -> String {
+    fn differences(&self, side: &str, got: u32, expected: u32, reading: &Memory) -> String {
         let shown = |result: u32| format!("number {}, reply of {}", result % 256, result / 256);
-        let mut text = format!("library: {}\nreading: {}\n", shown(got), shown(expected));
-        for ((name, got), (_, expected)) in self.library.buffers().into_iter().zip(reading.buffers()) {
+        let mut text = format!("{side}: {}\nreading: {}\n", shown(got), shown(expected));
+        for ((name, got), (_, expected)) in self.side.buffers().into_iter().zip(reading.buffers()) {
             if let Some(at) = (0..got.len()).find(|at| got[*at] != expected[*at]) {
                 let (got, expected) = (hex(got), hex(expected));
-                writeln!(text, "{name} differs from byte {at} on\nlibrary: {got}\nreading: {expected}")
+                writeln!(text, "{name} differs from byte {at} on\n{side}: {got}\nreading: {expected}")
                     .expect("a string takes any text");
             }
         }

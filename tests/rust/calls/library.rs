@@ -1,7 +1,7 @@
 //! The library's exports, by the wrapper for Rust. Linked with tests/c/boundary.c, every call passes through that.
 
-use crate::pcp::raw::{self, Answer};
 use crate::reading::boundary::Boundary;
+use pcp::raw::{self, Answer};
 
 /// The boundary as the archive has it.
 pub struct Library;
@@ -20,8 +20,8 @@ impl Boundary for Library {
         raw::message_check(message)
     }
 
-    fn recognise(&self, [supported, pcp]: [u8; 2], message: &[u8]) -> u8 {
-        raw::recognise(supported, pcp, message)
+    fn recognise(&self, facts: [u8; 2], message: &[u8]) -> u8 {
+        raw::recognise(facts, message)
     }
 
     fn device_new(&self, record: &mut [u8], version: &[u8]) -> u8 {
@@ -31,14 +31,14 @@ impl Boundary for Library {
     fn device_receive(
         &self,
         record: &mut [u8],
-        [supported, pcp]: [u8; 2],
+        facts: [u8; 2],
         condition: u8,
         message: &[u8],
         image: &mut [u8],
         map: &mut [u8],
         reply: &mut [u8],
     ) -> u32 {
-        packed(raw::device_receive(record, supported, pcp, condition, message, image, map, reply))
+        packed(raw::device_receive(record, facts, condition, message, image, map, reply))
     }
 
     fn device_next_message(&self, record: &[u8], image: &[u8], map: &[u8], reply: &mut [u8]) -> u32 {
@@ -56,12 +56,12 @@ impl Boundary for Library {
     fn gateway_receive(
         &self,
         record: &mut [u8],
-        [supported, pcp]: [u8; 2],
+        facts: [u8; 2],
         message: &[u8],
         package: &[u8],
         reply: &mut [u8],
     ) -> u32 {
-        packed(raw::gateway_receive(record, supported, pcp, message, package, reply))
+        packed(raw::gateway_receive(record, facts, message, package, reply))
     }
 
     fn gateway_next_message(&self, record: &[u8], package: &[u8], reply: &mut [u8]) -> u32 {

@@ -1,0 +1,199 @@
+//! A whole upgrade without losses, by the crate's types alone: what each call answers, and what it says has changed.
+
+use pcp::{
+    Code, Condition, Device, DevicePhase, Ending, Facts, Gateway, GatewayPhase, InstallCode, Refusal,
+    DEVICE_RECORD, DEVICE_REPLY, GATEWAY_RECORD, GATEWAY_REPLY,
+};
+
+/// Two fragments: 32 bytes, then 18.
+const PACKAGE: &[u8] = b"Fifty bytes in two fragments: 32 of them, then 18.";
+const SIZE: u16 = 32;
+const ERASED: u8 = 0xFF;
+
+/// Both ends, and the device's memory.
+struct Pair {
+    device: Device,
+    image: [u8; 64],
+    map: [u8; 1],
+    gateway: Gateway,
+}
+
+impl Pair {
+    fn new() -> Pair {
+        Pair {
+            device: Device::new(b"V0.9").unwrap(),
+            image: [ERASED; 64],
+            map: [ERASED],
+            gateway: Gateway::start(b"V1.0", SIZE, PACKAGE, true).unwrap(),
+        }
+    }
+
+    fn device_asks(&self) -> Option<Vec<u8>> {
+        let mut reply = [0; DEVICE_REPLY];
+        let message = self.device.next_message(&self.image, &self.map, &mut reply).unwrap();
+        message.map(<[u8]>::to_vec)
+    }
+
+    fn gateway_asks(&self) -> Option<Vec<u8>> {
+        let mut reply = [0; GATEWAY_REPLY];
+        self.gateway.next_message(PACKAGE, &mut reply).unwrap().map(<[u8]>::to_vec)
+    }
+
+    /// Gives back the reply, and whether record and image have changed.
+    fn device_takes(&mut self, message: &[u8]) -> (Option<Vec<u8>>, bool, Option<(usize, usize)>) {
+        let mut reply = [0; DEVICE_REPLY];
+        let (image, map) = (&mut self.image, &mut self.map);
+        let answer = self.device.receive(Facts::BOTH, Condition::Ready, message, image, map, &mut reply);
+        let answer = answer.unwrap();
+        let written = answer.written.map(|place| (place.start, place.len()));
+        (answer.reply.map(<[u8]>::to_vec), answer.changed, written)
+    }
+
+    fn gateway_takes(&mut self, message: &[u8]) -> (Option<Vec<u8>>, bool) {
+        let mut reply = [0; GATEWAY_REPLY];
+        let answer = self.gateway.receive(Facts::BOTH, message, PACKAGE, &mut reply).unwrap();
+        (answer.reply.map(<[u8]>::to_vec), answer.changed)
+    }
+
+    /// The gateway asks, and hears the answer.
+    fn gateway_speaks(&mut self) -> bool {
+        let message = self.gateway_asks().unwrap();
+        let (reply, changed, written) = self.device_takes(&message);
+        assert_eq!(written, None);
+        assert_eq!(self.gateway_takes(&reply.unwrap()).0, None);
+        changed
+    }
+
+    /// The device asks, and hears the answer: what of its image was written.
+    fn device_speaks(&mut self) -> Option<(usize, usize)> {
+        let message = self.device_asks().unwrap();
+        let reply = self.gateway_takes(&message).0.unwrap();
+        let (further, changed, written) = self.device_takes(&reply);
+        assert!(further.is_none() && changed);
+        written
+    }
+
+    fn phases(&self) -> (DevicePhase, GatewayPhase) {
+        (self.device.phase(), self.gateway.phase())
+    }
+
+    /// Up to where the device has all.
+    fn loaded() -> Pair {
+        let mut pair = Pair::new();
+        assert!(!pair.gateway_speaks(), "a query changes no device");
+        assert!(pair.gateway_speaks(), "an announcement begins a download");
+        assert_eq!(pair.device_speaks(), Some((0, 32)));
+        assert_eq!(pair.device_speaks(), Some((32, 18)));
+        pair
+    }
+}
+
+#[test]
+fn an_upgrade_succeeds() {
+    let mut pair = Pair::loaded();
+    assert_eq!(pair.phases(), (DevicePhase::Loaded, GatewayPhase::Serve));
+    assert_eq!((pair.device.size(), pair.device.total(), pair.device.stored()), (SIZE, 2, 2));
+    assert_eq!((pair.device.check_code(), pair.device.map_length()), (Some(0xE7C6), 1));
+    assert_eq!(pair.device.target().as_str(), "V1.0");
+    assert_eq!((pair.gateway.target().as_str(), pair.gateway.size()), ("V1.0", SIZE));
+    assert_eq!(pair.gateway_asks(), None);
+    assert_eq!(pair.device_speaks(), None);
+    assert_eq!(pair.device_asks(), None);
+    assert_eq!(pair.device.to_install(&pair.image), None);
+    assert!(pair.gateway_speaks());
+    assert_eq!(pair.device.to_install(&pair.image), Some(PACKAGE));
+    assert_eq!(pair.device.to_install(&pair.image[..PACKAGE.len() - 1]), None);
+    assert_eq!(pair.gateway.ending(), None);
+    pair.device.install_finished(InstallCode::Installed).unwrap();
+    assert_eq!(pair.device_speaks(), None);
+    assert_eq!(pair.phases(), (DevicePhase::Idle, GatewayPhase::Ended));
+    assert_eq!(pair.gateway.ending(), Some(Ending::Success));
+    assert_eq!(pair.device.running().to_string(), "V1.0");
+    assert_eq!(&pair.image[..PACKAGE.len()], PACKAGE);
+    assert_eq!(pair.image[PACKAGE.len()..], [ERASED; 14]);
+}
+
+#[test]
+fn a_refusal_changes_nothing() {
+    let mut pair = Pair::loaded();
+    let (device, image, map) = (pair.device.clone(), pair.image, pair.map);
+    let mut reply = [0x55; DEVICE_REPLY];
+    let refusals = [
+        (&b"no message"[..], DEVICE_REPLY, Refusal::BadStart),
+        (b"\xFF\xFE\x01\x13\x4C\x9B\0\0", DEVICE_REPLY, Refusal::BadCheck),
+        (b"\xFF\xFE\x01\x13\x4C\x9A\0\0", DEVICE_REPLY - 1, Refusal::ShortReply),
+    ];
+    for (message, room, refusal) in refusals {
+        let reply = &mut reply[..room];
+        let (image, map) = (&mut pair.image, &mut pair.map);
+        let answer = pair.device.receive(Facts::BOTH, Condition::Ready, message, image, map, reply);
+        assert_eq!(answer, Err(refusal));
+    }
+    assert_eq!(pair.device.install_finished(InstallCode::Installed), Err(Refusal::NoUse));
+    assert_eq!((pair.device, pair.image, pair.map, reply), (device, image, map, [0x55; DEVICE_REPLY]));
+}
+
+#[test]
+fn records_outlive_a_restart() {
+    let mut pair = Pair::loaded();
+    pair.device = Device::from_record(*pair.device.record()).unwrap();
+    pair.gateway = Gateway::from_record(*pair.gateway.record()).unwrap();
+    assert_eq!(pair.phases(), (DevicePhase::Loaded, GatewayPhase::Serve));
+    pair.device_speaks();
+    assert_eq!(pair.phases(), (DevicePhase::Acked, GatewayPhase::Run));
+}
+
+#[test]
+fn other_bytes_are_no_record() {
+    assert_eq!(Device::from_record([0; DEVICE_RECORD]), Err(Refusal::BadRecord));
+    assert_eq!(Gateway::from_record([0; GATEWAY_RECORD]), Err(Refusal::BadRecord));
+    let pair = Pair::loaded();
+    for phase in 0..=255 {
+        let (mut device, mut gateway) = (*pair.device.record(), *pair.gateway.record());
+        (device[0], gateway[0]) = (phase, phase);
+        let device = Device::from_record(device).map(|device| device.phase());
+        let gateway = Gateway::from_record(gateway).map(|gateway| gateway.phase());
+        match DevicePhase::try_from(phase) {
+            // A count that is the total is none of Loading.
+            Ok(DevicePhase::Loading) | Err(_) => assert_eq!(device, Err(Refusal::BadRecord)),
+            Ok(phase) => assert_eq!(device, Ok(phase)),
+        }
+        assert_eq!(gateway, GatewayPhase::try_from(phase).map_err(|_| Refusal::BadRecord));
+    }
+}
+
+#[test]
+fn values_and_bytes_are_each_others() {
+    fn known<T: TryFrom<u8> + Into<u8>>() -> Vec<u8> {
+        let known = |byte: &u8| match T::try_from(*byte) {
+            Ok(value) => value.into() == *byte,
+            Err(_) => false,
+        };
+        (0..=255).filter(known).collect()
+    }
+    assert_eq!(known::<Code>(), [19, 20, 21, 22, 23, 24]);
+    assert_eq!(known::<DevicePhase>(), [0, 1, 2, 3, 4, 5, 6]);
+    assert_eq!(known::<GatewayPhase>(), [0, 1, 2, 3, 4]);
+    assert_eq!(known::<Condition>(), [0, 1, 2, 4, 127]);
+    assert_eq!(known::<InstallCode>(), [0x00, 0x01, 0x04, 0x05, 0x09, 0x0A, 0x7F]);
+    assert_eq!(known::<Ending>(), [0, 1, 2, 3, 4, 5]);
+    assert_eq!(known::<Refusal>(), [&(1..=19).collect::<Vec<_>>()[..], &[29, 64]].concat());
+    assert_eq!(Ending::try_from(6).unwrap_err().to_string(), "unknown byte 06");
+}
+
+#[test]
+fn refusals_have_reasons() {
+    assert_eq!(Device::new(b"").unwrap_err().to_string(), "bad version text");
+    assert_eq!(Gateway::start(b"V1.0", 31, PACKAGE, true), Err(Refusal::BadSize));
+    assert_eq!(Gateway::start(b"V1.0", 32, b"", true), Err(Refusal::BadPackage));
+    assert!(Refusal::BadSize.is_hosts_fault() && !Refusal::AlreadyStored.is_hosts_fault());
+    assert_eq!(pcp::recognise(Facts { pcp: false, ..Facts::BOTH }, b""), Err(Refusal::OtherProtocol));
+    assert_eq!(pcp::recognise(Facts::BOTH, b"\xFF\xFE\x01\x13\x4C\x9A\0\0"), Ok(()));
+    assert_eq!((Code::of(b"\xFF\xFE\x01\x17"), Code::of(b"\xFF\xFE\x01")), (Some(Code::Execute), None));
+}
+
+#[test]
+fn checks_are_the_published_ones() {
+    assert_eq!(pcp::check_of_bytes(PACKAGE), 0xE7C6);
+    assert_eq!(pcp::check_of_message(b"\xFF\xFE\x01\x13\x12\x34\0\0"), 0x4C9A);
+}
