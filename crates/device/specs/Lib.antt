@@ -1,3 +1,4 @@
 pub mod Rules
 pub mod Coded
 pub mod Inner
+pub mod RefusedMaking

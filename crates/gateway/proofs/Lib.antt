@@ -5,4 +5,5 @@ pub mod Starts
 pub mod Handling
 pub mod Saying
 pub mod Calls
+pub mod RefusedStart
 pub mod Views

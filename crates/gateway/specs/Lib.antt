@@ -3,3 +3,4 @@ pub mod Stretch
 pub mod Rules
 pub mod Coded
 pub mod Inner
+pub mod RefusedStart
