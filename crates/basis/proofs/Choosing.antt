@@ -1,7 +1,7 @@
 -- Laws of `pick`, of tests joined by `&&`, and of refusals in order. Assumes nothing.
 use Prim.Native.Nat.{ℕ, suc}
 use native.Mathlib.Omega.{arith}
-use mathlib.Core.Path.{_≡_, refl, sym}
+use mathlib.Core.Path.{_≡_, refl, sym, _∙_}
 use mathlib.Core.Bool.{Bool, true, false, not, _&&_, _||_, false≢true, true≢false}
 use mathlib.Core.Logic.{_⊎_, inl, inr}
 use mathlib.Core.List.{List, [], _∷_}
@@ -98,6 +98,12 @@ pub refusal-among : (P : ℕ → Type 0) (ts : List (ℕ × Bool)) → P 0 → E
 unfolding refusal
 refusal-among P [] z e = z
 refusal-among P (t ∷ ts) z e = by-cases P (λ _. refusal-among P ts z (e .1)) (λ _. e .0)
+
+-- where a test of them fails, the tests are not passed, and the choice is what a refusal leads to
+pub by-refusal : {A : Type 0} (P : A → Type 0) (n : ℕ) (a b : A) {t : Bool} → t ≡ false → (n ≡ 0 → t ≡ true) → ((n ≡ 0 → ⊥) → P b)
+    → P (pick (eqb n 0) a b)
+by-refusal P n a b f pass p =
+    by-cases P (λ z. absurd (true≢false (sym (pass (eqb-true n 0 z)) ∙ f))) (λ z. p (eqb-false n 0 z))
 
 -- what holds of each of some numbers holds of one of them
 abbrev pub Every : (ℕ → Type 0) → List ℕ → Type 0

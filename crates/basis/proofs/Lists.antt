@@ -125,6 +125,18 @@ drop-least xs k at e = go (decLe (length xs) k)
         let p : at ≡ k = omega arith in
         rw p
 
+-- a list up to a place, or to its end
+pub take-least : (xs : List ℕ) (k at : ℕ) → at ≡ min (length xs) k → take at xs ≡ take k xs
+take-least xs k at e = go (decLe (length xs) k)
+  where
+    go : Dec (length xs ≤ k) → take at xs ≡ take k xs
+    go (yes h) =
+        let p : length xs ≤ at = omega arith in
+        take-all at xs p ∙ sym (take-all k xs h)
+    go (no h) =
+        let p : at ≡ k = omega arith in
+        rw p
+
 -- ---- WORDs
 
 module _ (xs : List ℕ) (at : ℕ) (h : Bytes xs) where

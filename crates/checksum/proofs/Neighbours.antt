@@ -1,6 +1,6 @@
 -- What the check cannot see: a change by 0A and C3 in two bytes next to each other, if neither is in the check field (01, "The message
 -- and its check"). Assumes nothing.
-use Prim.Native.Nat.{ℕ, zero, suc, _+_, _/_, _%_, _<_}
+use Prim.Native.Nat.{ℕ, zero, suc, _/_, _%_, _<_}
 use native.Mathlib.Nat.{zero-add, le-of-suc-le-suc, not-suc-le-zero}
 use native.Mathlib.Numerals.{add-one}
 use native.Mathlib.Omega.{arith}
@@ -11,6 +11,7 @@ use lib.Bits.{bitXor, xor-comm, xor-mod, xor-shr, xor-zero-r}
 use lib.ListN.{length, getD, set, length-set}
 use lib.Seq.{set-comm, getD-set-other}
 use Rattle.checksum.specs.Check.{doubled, entryOf, listed, step, register, checkOf, zeroed, messageCheck}
+use Rattle.checksum.specs.Neighbours.{Neighbours}
 use Rattle.basis.specs.Choice.{pick}
 use Rattle.checksum.proofs.Xor.{xor-assoc}
 use Rattle.checksum.proofs.Register.{getD-listed}
@@ -79,8 +80,7 @@ module _ (m : List ℕ) (i : ℕ) (p : i ≢ 4) (q : i ≢ 5) where
   unfolding zeroed
   zeroed-getD = rw (getD-set-other (set m 4 0) 5 i 0 0, getD-set-other m 4 i 0 0)
 
-pub message-neighbours : (m : List ℕ) (i : ℕ) → i + 1 < length m → i ≢ 3 → i ≢ 4 → i ≢ 5
-    → messageCheck (set (set m i (bitXor (getD m i 0) 0x0A)) (i + 1) (bitXor (getD m (i + 1) 0) 0xC3)) ≡ messageCheck m
+pub message-neighbours : Neighbours 0x0A 0xC3
 unfolding messageCheck checkOf
 message-neighbours m i h n₃ n₄ n₅ =
     let s₄ : suc i ≢ 4 = omega arith in

@@ -1,6 +1,7 @@
 pub mod Frames
 pub mod RoundTrip
 pub mod Published
+pub mod Demand2
 pub mod Heard
 pub mod Places
 pub mod Laying

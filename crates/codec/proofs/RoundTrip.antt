@@ -13,30 +13,9 @@ use Rattle.basis.proofs.Lists.{same-true, same-refl, take-over}
 use Rattle.message.specs.Recognition.{recognition}
 use Rattle.message.specs.Messages.{Table, toDevice, toGateway, Reading, found, refused}
 use Rattle.codec.specs.Codec.{frame, Sent, bytesOf, readOf, writeOf, said}
+use Rattle.codec.specs.Demand2.{RoundTrips}
 use Rattle.codec.proofs.Frames.{frame-code, frame-data, frame-recognised, length-frame, Recognised, recognised, recognised-facts, recognised-frame}
 use Rattle.message.proofs.Tables.{Lawful, device-lawful, gateway-lawful}
-
--- the claim
-pub record RoundTrip (t : Table) : Type 0 where
-  -- a valid message, written, is recognised with 0, fits its sender's buffer and is read as itself; no other message is found in it
-  pub written-recognised : (m : t .Message) → t .valid m ≡ true → recognition true true (bytesOf t m) ≡ 0
-  pub written-fits : (m : t .Message) → t .valid m ≡ true → length (bytesOf t m) ≤ t .room
-  pub written-read : (m : t .Message) → t .valid m ≡ true → readOf t true true (bytesOf t m) ≡ found m
-  pub written-only : (m n : t .Message) → t .valid m ≡ true → (supported pcp : Bool) → readOf t supported pcp (bytesOf t m) ≡ found n → n ≡ m
-  -- through a buffer: a valid message is sent where there is room, and what was sent is read as what was to be sent
-  pub sent-valid : (m : t .Message) → t .valid m ≡ true → (buffer : List ℕ) → t .room ≤ length buffer
-      → writeOf t (found m) buffer ≡ record { number = 0; length = length (bytesOf t m); buffer = over (bytesOf t m) buffer }
-  pub sent-read : (r : Reading (t .Message)) (buffer : List ℕ) → let w : Sent = writeOf t r buffer in
-      w .number ≡ 0 → readOf t true true (take (w .length) (w .buffer)) ≡ r
-  pub said-read : (m : t .Message) → t .valid m ≡ true → (buffer : List ℕ) → let w : Sent = said t (found m) buffer in
-      readOf t true true (take (w .length) (w .buffer)) ≡ found m
-  -- a message that is read is valid, has the code that stands in the bytes, and is written as those bytes again
-  pub read-valid : (supported pcp : Bool) (bytes : List ℕ) (m : t .Message) → readOf t supported pcp bytes ≡ found m → t .valid m ≡ true
-  pub read-code : (supported pcp : Bool) (bytes : List ℕ) (m : t .Message) → readOf t supported pcp bytes ≡ found m → t .code m ≡ getD bytes 3 0
-  pub read-written : (supported pcp : Bool) (bytes : List ℕ) (m : t .Message) → readOf t supported pcp bytes ≡ found m
-      → Bytes bytes → bytesOf t m ≡ bytes
-  -- any other reading has one of the numbers 1 to 8
-  pub refused-number : (supported pcp : Bool) (bytes : List ℕ) (n : ℕ) → readOf t supported pcp bytes ≡ refused n → (1 ≤ n) × (n ≤ 8)
 
 -- ---- reading
 
@@ -127,26 +106,26 @@ module _ (t : Table) (lawful : Lawful t) where
     read-so : readOf t true true bytes ≡ found m
     read-so = let (s, p) = recognised-facts supported pcp bytes (told .number) in rw (s, p) at e
 
-  pub round-trip : RoundTrip t
+  pub round-trip : RoundTrips t
   round-trip =
       record {
-        written-recognised = recognised-again;
-        written-fits = fits;
         written-read = read-again;
         written-only = λ m n v s p e. let f = read-so s p (bytesOf t m) n e in let g = read-again m v in cc;
+        written-recognised = recognised-again;
+        written-fits = fits;
+        read-written = written-again;
+        read-valid = λ s p bytes m e. told s p bytes m e .valid;
+        read-code = code-in;
+        refused-number = λ s p bytes n e. subst (Tells t s p bytes) e (read-tells t s p bytes);
         sent-valid = sent;
         sent-read = read-back;
         said-read = said-again;
-        read-valid = λ s p bytes m e. told s p bytes m e .valid;
-        read-code = code-in;
-        read-written = written-again;
-        refused-number = λ s p bytes n e. subst (Tells t s p bytes) e (read-tells t s p bytes);
       }
 
 -- ---- all twelve messages
 
-pub device-round-trip : RoundTrip toDevice
+pub device-round-trip : RoundTrips toDevice
 device-round-trip = round-trip toDevice device-lawful
 
-pub gateway-round-trip : RoundTrip toGateway
+pub gateway-round-trip : RoundTrips toGateway
 gateway-round-trip = round-trip toGateway gateway-lawful

@@ -1,3 +1,5 @@
 pub mod Codec
 pub mod Coded
 pub mod Parts
+pub mod Published
+pub mod Demand2

@@ -8,6 +8,7 @@ pub mod Announced
 pub mod Executed
 pub mod Fragments
 pub mod Readings
+pub mod RefusedMaking
 pub mod Replying
 pub mod Storing
 pub mod Wanted

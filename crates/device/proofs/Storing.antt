@@ -1,8 +1,7 @@
--- Laws of storing a fragment that has passed its tests: it fits its place, and so do the counts and the package's end. Assumes nothing.
-use Prim.Native.Nat.{ℕ, _+_, _*_, _-_, _≤_, _<_}
-use native.Mathlib.Nat.{mul-comm, suc-mul}
+-- Laws of storing a fragment that has passed its tests: it fits its place, and so do its length and the count. Assumes nothing.
+use Prim.Native.Nat.{ℕ, _+_, _*_, _≤_, _<_}
 use native.Mathlib.Omega.{arith}
-use mathlib.Core.Path.{_≡_, ap}
+use mathlib.Core.Path.{_≡_}
 use mathlib.Core.Bool.{true}
 use mathlib.Core.List.{List}
 use lib.Dec.{eqb}
@@ -10,11 +9,10 @@ use lib.ListN.{length}
 use borrow.Author.Tests.{le-leb}
 use Rattle.basis.specs.Choice.{pick}
 use Rattle.basis.specs.Bytes.{patched}
-use Rattle.basis.proofs.Choosing.{by-cases, and-both}
-use Rattle.basis.proofs.Lists.{length-patched}
+use Rattle.basis.proofs.Choosing.{and-both}
 use Rattle.bitmap.specs.Bitmap.{mark}
 use Rattle.device_record.specs.declared.Device.{Device}
-use Rattle.device_record.specs.Record.{loading, acked, holding, recordOk, roomOk, mapBytes, grown}
+use Rattle.device_record.specs.Record.{loading, acked, holding, recordOk, roomOk, mapBytes, withFragment}
 use Rattle.device.specs.Rules.{fragmentLength, completion, store}
 use Rattle.device.specs.Coded.{afterCall}
 use Rattle.device_decisions.proofs.Tested.{fragment-fits}
@@ -24,12 +22,6 @@ use Rattle.device_record.proofs.Records.{Ranged, record-kept, room-held}
 pub loading-holds : (phase : ℕ) → phase ≡ loading → holding phase ≡ true
 unfolding holding
 loading-holds phase e = and-both (le-leb loading phase (omega arith)) (le-leb phase acked (omega arith))
-
--- the last fragment ends where all are full or before
-end-within : (size total last : ℕ) → 1 ≤ total → last ≤ size → size * (total - 1) + last ≤ size * total
-end-within size total last h k =
-    let one : total ≡ 1 + (total - 1) = omega arith in
-    omega (arith, mul-comm size (total - 1), mul-comm size total, suc-mul (total - 1) size, ap (λ (n : ℕ). n * size) one)
 
 module _ (d : Device) (image map : List ℕ) (index : ℕ) (content : List ℕ)
     (tests : (recordOk d ≡ true) × ((d .phase ≡ loading) × ((roomOk d image map ≡ true) × ((index < d .fields .total) × (fragmentLength (d .fields) index (length content) ≡ true))))) where
@@ -51,18 +43,11 @@ module _ (d : Device) (image map : List ℕ) (index : ℕ) (content : List ℕ)
   pub count-fits : d .stored < 65535
   count-fits = omega (arith, ranged .unfinished (tests .1 .0), ranged .total)
 
-  pub end-fits : (last at : ℕ) (filled : List ℕ) → last ≡ pick (eqb (index + 1) (d .fields .total)) (length content) (d .last) → at ≡ index * d .fields .size
-      → filled ≡ patched at content image → (1 ≤ d .fields .total) × (d .fields .size * (d .fields .total - 1) + last ≤ length filled)
-  end-fits last at filled l a f =
-      let short : last ≤ d .fields .size = rw l (by-cases (λ (n : ℕ). n ≤ d .fields .size) (λ _. fits) (λ _. ranged .last)) in
-      let same : length filled ≡ length image = rw (f, a) (length-patched (index * d .fields .size) content image place-fits) in
-      omega (arith, ranged .total, room, end-within (d .fields .size) (d .fields .total) last (ranged .total .0) short)
-
 -- what was written, put together
 pub stored-all : (d : Device) (image map : List ℕ) (index : ℕ) (content : List ℕ) (at last phase : ℕ) (filled marks : List ℕ) (next : Device)
     → at ≡ index * d .fields .size → filled ≡ patched at content image → marks ≡ mark index map
     → last ≡ pick (eqb (index + 1) (d .fields .total)) (length content) (d .last) → phase ≡ completion (d .stored + 1) last (d .fields) filled
-    → next ≡ grown phase last d → (reply : List ℕ)
+    → next ≡ withFragment phase (d .stored + 1) last d → (reply : List ℕ)
     → afterCall (record { number = 0; length = 0; device = next }) filled marks reply ≡ store d image map reply index content
 unfolding store
 stored-all d image map index content at last phase filled marks next a f m l p n reply = rw (n, p, l, f, m, a)

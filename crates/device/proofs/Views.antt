@@ -20,7 +20,7 @@ use Rattle.message.specs.declared.Fields.{Fields}
 use Rattle.codec.proofs.Heard.{read}
 use Rattle.device_decisions.proofs.Accepted.{Accepted, accepted-facts}
 use Rattle.device_record.specs.declared.Device.{Device}
-use Rattle.device_record.specs.Record.{idle, loading, loaded, acked, failed, installing, reporting, holding, inPhase, begun, grown, withOutcome, recordOk, roomOk, mapBytes}
+use Rattle.device_record.specs.Record.{idle, loading, loaded, acked, failed, installing, reporting, holding, inPhase, begun, withFragment, withOutcome, recordOk, roomOk, mapBytes}
 use Rattle.bitmap.specs.Bitmap.{marked, mark, cleared, lowestMissing}
 use Rattle.device.specs.declared.Finished.{Finished}
 use Rattle.device.specs.Rules as rules
@@ -92,9 +92,10 @@ module _ (d : Device) (image map : List ℕ) where
 
   abbrev pub storedOut : (index : ℕ) → List ℕ → Out
   storedOut index bytes =
+      let stored : ℕ = d .stored + 1 in
       let last : ℕ = lastAfter (d .fields) index (length bytes) (d .last) in
       let filled : List ℕ = patched (index * d .fields .size) bytes image in
-      out 0 (grown (completion (d .stored + 1) last (d .fields) filled) last d) filled (mark index map) []
+      out 0 (withFragment (completion stored last (d .fields) filled) stored last d) filled (mark index map) []
 
   -- an announcement of the download that is held
   pub record Resumes (condition : ℕ) (f : Fields) : Type 0 where

@@ -11,7 +11,7 @@ use Rattle.message.specs.Messages.{DeviceMessage, query, announce, fragment, do
 use Rattle.codec.specs.Codec.{Sent, bytesOf, readOf, said}
 use Rattle.message.specs.declared.Fields.{Fields}
 use Rattle.device_record.specs.declared.Device.{Device}
-use Rattle.device_record.specs.Record.{idle, loading, loaded, acked, failed, installing, reporting, conditionOk, inPhase, begun, grown, withOutcome, recordOk, roomOk, mapBytes}
+use Rattle.device_record.specs.Record.{idle, loading, loaded, acked, failed, installing, reporting, conditionOk, inPhase, begun, withFragment, withOutcome, recordOk, roomOk, mapBytes}
 use Rattle.bitmap.specs.Bitmap.{marked, mark, cleared, lowestMissing}
 use Rattle.device.specs.declared.Finished.{Finished}
 unfoldable pub use Rattle.device_decisions.specs.Decisions.{announceResult, sameFields, resumes, fragmentLength, passes, completion, executeResult}
@@ -56,12 +56,13 @@ module _ (d : Device) (image map reply : List ℕ) where
   unfoldable pub store : (index : ℕ) → List ℕ → After
   store index bytes =
       let f : Fields = d .fields in
+      let stored : ℕ = d .stored + 1 in
       let last : ℕ = pick (eqb (index + 1) (f .total)) (length bytes) (d .last) in
       let filled : List ℕ = patched (index * f .size) bytes image in
       record {
         number = 0;
         length = 0;
-        device = grown (completion (d .stored + 1) last f filled) last d;
+        device = withFragment (completion stored last f filled) stored last d;
         image = filled;
         map = mark index map;
         reply = reply;

@@ -7,8 +7,8 @@ use device_decisions::completion;
 use device_decisions::fragment_number;
 use device_decisions::last_length;
 use device_record::Device;
-use device_record::grown;
 use device_record::in_phase;
+use device_record::with_fragment;
 use message::ToDevice;
 ghost use mathlib.Core.Path.{_≡_};
 ghost use mathlib.Core.Bool.{true};
@@ -35,13 +35,13 @@ fn store(device: Device, index: u16, content: &[u8], image: &mut [u8], map: &mut
     let at = basis::product(index, fields.size);
     basis::put(image, at, content);
     bitmap::mark(map, index as usize);
-    let last = last_length(device, index, content.len());
+    let last = last_length(device, index, content.len() as u16);
     let stored = device.stored + 1;
     let phase = completion(stored, last, fields, image);
     Answer {
         number: 0,
         length: 0,
-        device: grown(device, phase, last),
+        device: with_fragment(device, phase, stored, last),
     }
 }
 

@@ -1,5 +1,6 @@
 // What the device decides of the messages that it is given: each test of 01's "The head" by itself,
 // over the record and plain values. Nothing is written here.
+use basis::least;
 use basis::pick;
 use basis::product;
 use basis::unless;
@@ -8,9 +9,8 @@ use device_record::holding;
 use device_record::map_bytes;
 use message::Fields;
 ghost use mathlib.Core.Path.{_≡_};
-ghost use Prim.Native.Nat.{_+_, _*_, _-_, _≤_, _<_};
+ghost use Prim.Native.Nat.{_+_, _*_, _-_};
 ghost use lib.Dec.{eqb, leb};
-ghost use lib.ListN.{length};
 ghost use Rattle.basis.specs.Choice.{pick};
 ghost use Rattle.bitmap.specs.Bitmap.{marked};
 ghost use Rattle.device_decisions.specs.Decisions.{announceResult, sameFields, resumes, fragmentLength, passes, completion, executeResult};
@@ -87,17 +87,26 @@ fn passes(code: u16, bytes: &[u8]) -> bool
     code == checksum::check(bytes)
 }
 
+// Where the package ends: every fragment but the last is size long.
+fn end_of(fields: Fields, last: u16) -> usize
+    ensures { λ r. ⌜ r ≡ fields .size * (fields .total - 1) + last ⌝ }
+{
+    let total = fields.total;
+    if total == 0 {
+        return last as usize;
+    }
+    product(fields.size, total - 1) + last as usize
+}
+
 // 21: the phase once a fragment is stored. The package ends where its last fragment does.
 pub fn completion(stored: u16, last: u16, fields: Fields, image: &[u8]) -> u8
-    requires { ⌜ 1 ≤ fields .total ⌝ }
-    requires { ⌜ fields .size * (fields .total - 1) + last ≤ length (now image) ⌝ }
     ensures { λ r. ⌜ r ≡ completion stored last fields (now (image .entry)) ⌝ }
 {
     let total = fields.total;
     if stored != total {
         return Device::LOADING;
     }
-    let end = product(fields.size, total - 1) + last as usize;
+    let end = least(image.len(), end_of(fields, last));
     if passes(fields.code, &image[0..end]) {
         Device::LOADED
     } else {
@@ -106,13 +115,12 @@ pub fn completion(stored: u16, last: u16, fields: Fields, image: &[u8]) -> u8
 }
 
 // 21: the length of the last fragment, once one more is stored.
-pub fn last_length(device: Device, index: u16, len: usize) -> u16
-    requires { ⌜ len < 65536 ⌝ }
+pub fn last_length(device: Device, index: u16, len: u16) -> u16
     ensures { λ r. ⌜ r ≡ pick (eqb (index + 1) (device .fields .total)) len (device .last) ⌝ }
 {
     let fields = device.fields;
     if index as usize + 1 == fields.total as usize {
-        len as u16
+        len
     } else {
         device.last
     }

@@ -2,7 +2,7 @@
 use Prim.Native.Nat.{ℕ, _+_, _*_, _/_}
 use mathlib.Core.Bool.{Bool, true, _&&_, not}
 use mathlib.Core.List.{List, [], _∷_}
-use lib.Dec.{eqb, leb, ltb}
+use lib.Dec.{eqb, leb}
 use lib.ListN.{length, replicate}
 use Rattle.basis.specs.Choice.{pick, oneOf}
 use Rattle.message.specs.Limits.{sizeOk, totalOk}
@@ -56,10 +56,10 @@ inPhase phase d =
 abbrev pub begun : Fields → Device → Device
 begun f d = record { phase = loading; running = d .running; fields = f; stored = 0; last = 0; outcome = d .outcome }
 
--- one fragment more
-abbrev pub grown : (phase last : ℕ) → Device → Device
-grown phase last d =
-    record { phase = phase; running = d .running; fields = d .fields; stored = d .stored + 1; last = last; outcome = d .outcome }
+-- a fragment more: the phase, the count and the last length with it
+abbrev pub withFragment : (phase stored last : ℕ) → Device → Device
+withFragment phase stored last d =
+    record { phase = phase; running = d .running; fields = d .fields; stored = stored; last = last; outcome = d .outcome }
 
 -- the installer's code kept, and what runs from now on
 abbrev pub withOutcome : (code : ℕ) (running : List ℕ) → Device → Device

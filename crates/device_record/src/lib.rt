@@ -13,12 +13,12 @@ pub use guards::finishing;
 pub use guards::receiving;
 pub use record::begun;
 pub use record::condition_ok;
-pub use record::grown;
 pub use record::holding;
 pub use record::in_phase;
 pub use record::map_bytes;
 pub use record::record_ok;
 pub use record::room_ok;
+pub use record::with_fragment;
 pub use record::with_outcome;
 
 // What the device keeps between calls. The host keeps it, and lends it by value to every call.

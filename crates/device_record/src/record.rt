@@ -3,10 +3,9 @@
 use crate::Device;
 use message::Fields;
 ghost use mathlib.Core.Path.{_≡_};
-ghost use Prim.Native.Nat.{_<_};
 ghost use lib.Dec.{eqb};
 ghost use Rattle.basis.specs.Choice.{pick};
-ghost use Rattle.device_record.specs.Record.{fresh, inPhase, begun, grown, withOutcome, holding, conditionOk, downloadOk, recordOk, mapBytes, roomOk};
+ghost use Rattle.device_record.specs.Record.{fresh, inPhase, begun, withFragment, withOutcome, holding, conditionOk, downloadOk, recordOk, mapBytes, roomOk};
 
 // Idle, with a version that runs and is the target too.
 pub(crate) fn fresh(version: [u8; 16]) -> Device
@@ -48,12 +47,10 @@ pub fn begun(device: Device, fields: Fields) -> Device
     next
 }
 
-// One fragment more.
-pub fn grown(device: Device, phase: u8, last: u16) -> Device
-    requires { ⌜ device .stored < 65535 ⌝ }
-    ensures { λ r. ⌜ r ≡ grown phase last device ⌝ }
+// A fragment more: the phase, the count and the last length with it.
+pub fn with_fragment(device: Device, phase: u8, stored: u16, last: u16) -> Device
+    ensures { λ r. ⌜ r ≡ withFragment phase stored last device ⌝ }
 {
-    let stored = device.stored + 1;
     let mut next = device;
     next.phase = phase;
     next.stored = stored;
@@ -99,7 +96,8 @@ fn download_ok(device: Device) -> bool
     let size = fields.size;
     let total = fields.total;
     let stored = device.stored;
-    (message::size_ok(size) & message::total_ok(total))
+    (((Device::SIZE_MIN <= size) & (size <= Device::SIZE_MAX))
+        & ((1 <= total) & (total <= Device::TOTAL_MAX)))
         & ((stored <= total)
             & (!((device.phase == Device::LOADING) & (stored == total)) & (device.last <= size)))
 }

@@ -5,5 +5,6 @@ pub mod Starts
 pub mod Handling
 pub mod Saying
 pub mod Calls
+pub mod RefusedStart
 pub mod Views
 pub mod Cases

@@ -4,3 +4,4 @@ pub mod Rules
 pub mod Coded
 pub mod Inner
 pub mod Cases
+pub mod RefusedStart

@@ -2,9 +2,16 @@
 use crate::Gateway;
 ghost use mathlib.Core.Path.{_≡_};
 ghost use Prim.Native.Nat.{_*_, _≤_};
-ghost use Rattle.message.specs.Limits.{totalMax};
+ghost use Rattle.message.specs.Limits.{sizeOk, totalMax};
 ghost use Rattle.gateway.specs.Record.{totalOf, lengthOk};
 ghost use Rattle.gateway.specs.Stretch.{Stretch};
+
+// The fragment size is in range.
+pub(crate) fn size_ok(size: u16) -> bool
+    ensures { λ r. ⌜ r ≡ sizeOk size ⌝ }
+{
+    (Gateway::SIZE_MIN <= size) & (size <= Gateway::SIZE_MAX)
+}
 
 // The package is neither empty nor longer than the most fragments of that size.
 pub(crate) fn length_ok(length: usize, size: u16) -> bool

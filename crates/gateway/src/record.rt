@@ -2,6 +2,7 @@
 use crate::Gateway;
 use crate::Started;
 use crate::fragments::length_ok;
+use crate::fragments::size_ok;
 ghost use mathlib.Core.Path.{_≡_};
 ghost use mathlib.Core.List.{[], _∷_};
 ghost use lib.ListN.{length};
@@ -18,7 +19,7 @@ fn start_refusal(version: [u8; 16], size: u16, length: usize) -> u8
     if !message::good_version(version) {
         return 17;
     }
-    if !message::size_ok(size) {
+    if !size_ok(size) {
         return 18;
     }
     if !length_ok(length, size) {
@@ -98,5 +99,5 @@ pub(crate) fn record_ok(gateway: Gateway) -> bool
     let size = gateway.size;
     let length = gateway.length;
     ((phase <= Gateway::ENDED) & (ending <= 5))
-        & (message::good_version(version) & (message::size_ok(size) & length_ok(length, size)))
+        & (message::good_version(version) & (size_ok(size) & length_ok(length, size)))
 }

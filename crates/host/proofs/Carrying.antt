@@ -14,7 +14,7 @@ use Rattle.basis.proofs.Lists.{length-part}
 use Rattle.message.specs.Version.{goodVersion}
 use Rattle.message.specs.Messages.{DeviceMessage, query, announce, fragment, downloadReply, execute, resultReply, deviceValid, GatewayMessage, queryReply, announceReply, fragmentRequest, downloadReport, executeReply, resultReport, Table, Reading, found, refused, toDevice, toGateway}
 use Rattle.codec.specs.Codec.{readOf}
-use Rattle.codec.proofs.RoundTrip.{RoundTrip, device-round-trip}
+use Rattle.codec.proofs.RoundTrip.{device-round-trip}
 use Rattle.device_record.specs.declared.Device.{Device}
 use Rattle.device_record.specs.declared.Made.{Made}
 use Rattle.device_record.specs.Record.{newOf}

@@ -10,7 +10,8 @@ use Rattle.basis.specs.Choice.{pick, refusal}
 use Rattle.basis.proofs.Choosing.{by-cases, refusal-among}
 use Rattle.message.specs.Messages.{DeviceMessage, query, announce, fragment, downloadReply, execute, resultReply, GatewayMessage, queryReply, announceReply, fragmentRequest, downloadReport, executeReply, resultReport, Table, Reading, found, refused, toDevice, toGateway}
 use Rattle.codec.specs.Codec.{Sent, readOf, said}
-use Rattle.codec.proofs.RoundTrip.{RoundTrip, device-round-trip, gateway-round-trip}
+use Rattle.codec.specs.Demand2.{RoundTrips}
+use Rattle.codec.proofs.RoundTrip.{device-round-trip, gateway-round-trip}
 use Rattle.device_record.specs.declared.Device.{Device}
 use Rattle.device.specs.Rules as device
 use Rattle.gateway.specs.declared.Gateway.{Gateway}
@@ -27,7 +28,7 @@ abbrev Small : {M : Type 0} → Reading M → Type 0
 Small (found m) = Unit {0}
 Small (refused n) = n < 256
 
-read-small : (t : Table) → RoundTrip t → (supported pcp : Bool) (bytes : List ℕ) → Small (readOf t supported pcp bytes)
+read-small : (t : Table) → RoundTrips t → (supported pcp : Bool) (bytes : List ℕ) → Small (readOf t supported pcp bytes)
 read-small t trip supported pcp bytes = at (readOf t supported pcp bytes) refl
   where
     at : (r : Reading (t .Message)) → readOf t supported pcp bytes ≡ r → Small r

@@ -7,8 +7,6 @@ mod version;
 pub use ranges::device_valid;
 pub use ranges::gateway_valid;
 pub use ranges::install_code;
-pub use ranges::size_ok;
-pub use ranges::total_ok;
 pub use recognition::recognise;
 pub use version::good_version;
 pub use version::same_version;

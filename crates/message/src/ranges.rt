@@ -9,14 +9,14 @@ ghost use Rattle.message.specs.Messages.{DeviceMessage, GatewayMessage, 
 ghost use Rattle.message.specs.Coded.{deviceMessage, gatewayMessage, validOf};
 
 // A fragment size.
-pub fn size_ok(size: u16) -> bool
+fn size_ok(size: u16) -> bool
     ensures { λ r. ⌜ r ≡ sizeOk size ⌝ }
 {
     (Fields::SIZE_MIN <= size) & (size <= Fields::SIZE_MAX)
 }
 
 // A number of fragments.
-pub fn total_ok(total: u16) -> bool
+fn total_ok(total: u16) -> bool
     ensures { λ r. ⌜ r ≡ totalOk total ⌝ }
 {
     (1 <= total) & (total <= Fields::TOTAL_MAX)

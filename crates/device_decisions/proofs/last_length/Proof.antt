@@ -12,9 +12,6 @@ add-if1 c = search needs
 cast-if1 : tie.Need-cast-if1
 cast-if1 c = search needs
 
-cast-result : tie.Need-cast-result
-cast-result c = search needs
-
 returns : tie.Need-returns
 returns c = sym (pick-yes _ _ _ (eq-eqb _ _ (c .if1 .taken)))
 
@@ -22,4 +19,4 @@ returns-2 : tie.Need-returns-2
 returns-2 c = sym (pick-no _ _ _ (ne-eqb _ _ (c .if1 .left)))
 
 pub last-length-spec : {M : Type 1} → statement M
-last-length-spec = tie.close (tie.spec add-if1 cast-if1 cast-result returns returns-2)
+last-length-spec = tie.close (tie.spec add-if1 cast-if1 returns returns-2)

@@ -1,7 +1,7 @@
 -- `device::fragment::store` meets its contract. Assumes nothing.
 use borrow.Author.Needs.{needs}
 use native.Mathlib.Omega.{arith}
-use Rattle.device.proofs.Storing.{place-fits, content-short, count-fits, end-fits, stored-all}
+use Rattle.device.proofs.Storing.{place-fits, content-short, count-fits, stored-all}
 use Rattle.device.proofs.fragment.store.Statement.{statement}
 use Rattle.device.proofs.fragment.store.Tie as tie
 
@@ -16,10 +16,13 @@ put-requires c κs =
 mark-requires : tie.Need-mark-requires
 mark-requires c κs = search needs
 
-last-length-requires : tie.Need-last-length-requires
-last-length-requires c κs =
+cast-last-length : tie.Need-cast-last-length
+cast-last-length c =
     let s = c .before .before .before .before .before .before .before .before .before .before .before .before .before in
-    content-short _ (s .args .image .now) (s .args .map .now) _ (s .args .content .now) (s .pre)
+    omega (arith, content-short _ (s .args .image .now) (s .args .map .now) _ (s .args .content .now) (s .pre))
+
+last-length-requires : tie.Need-last-length-requires
+last-length-requires c κs = search needs
 
 add-stored : tie.Need-add-stored
 add-stored c =
@@ -27,14 +30,10 @@ add-stored c =
     omega (arith, count-fits _ (s .args .image .now) (s .args .map .now) _ (s .args .content .now) (s .pre))
 
 completion-requires : tie.Need-completion-requires
-completion-requires c κs =
-    let s = c .before .before .before .before .before .before .before .before .before .before .before .before .before .before .before .before in
-    end-fits _ (s .args .image .now) (s .args .map .now) _ (s .args .content .now) (s .pre) _ _ _ (c .before .before .last-length .ensures) (c .before .before .before .before .before .before .before .before .before .before .before .product .ensures) (c .before .before .before .before .before .before .before .before .before .put .ensures)
+completion-requires c κs = search needs
 
-grown-requires : tie.Need-grown-requires
-grown-requires c κs =
-    let s = c .before .before .before .before .before .before .before .before .before .before .before .before .before .before .before .before .before in
-    count-fits _ (s .args .image .now) (s .args .map .now) _ (s .args .content .now) (s .pre)
+with-fragment-requires : tie.Need-with-fragment-requires
+with-fragment-requires c κs = search needs
 
 same-length : tie.Need-same-length
 same-length c = search needs
@@ -45,7 +44,13 @@ same-length-2 c = search needs
 returns : tie.Need-returns
 returns c =
     let s = c .before .before .before .before .before .before .before .before .before .before .before .before .before .before .before .before .before .before in
-    λ reply. stored-all _ (s .args .image .now) (s .args .map .now) _ (s .args .content .now) _ _ _ _ _ _ (c .before .before .before .before .before .before .before .before .before .before .before .before .before .product .ensures) (c .before .before .before .before .before .before .before .before .before .before .before .put .ensures) (c .before .before .before .before .before .before .before .mark .ensures) (c .before .before .before .before .last-length .ensures) (c .before .completion .ensures) (c .grown .ensures) reply
+    λ reply. stored-all _ (s .args .image .now) (s .args .map .now) _ (s .args .content .now) _ _ _ _ _ _
+    (c .before .before .before .before .before .before .before .before .before .before .before .before .before .product .ensures)
+    (c .before .before .before .before .before .before .before .before .before .before .before .put .ensures)
+    (c .before .before .before .before .before .before .before .mark .ensures)
+    (c .before .before .before .before .last-length .ensures)
+    (c .before .completion .ensures)
+    (c .with-fragment .ensures) reply
 
 pub store-spec : {M : Type 1} → statement M
 store-spec =
@@ -54,10 +59,11 @@ store-spec =
     product-requires
     put-requires
     mark-requires
+    cast-last-length
     last-length-requires
     add-stored
     completion-requires
-    grown-requires
+    with-fragment-requires
     same-length
     same-length-2
     returns)

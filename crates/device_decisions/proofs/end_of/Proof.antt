@@ -1,0 +1,28 @@
+-- `device_decisions::end_of` meets its contract. Assumes nothing.
+use borrow.Author.Needs.{needs}
+use Prim.Native.Nat.{_-_}
+use native.Mathlib.Omega.{arith}
+use native.Mathlib.Nat.{mul-zero, zero-add}
+use Rattle.basis.proofs.Lists.{words-product}
+use Rattle.device_decisions.proofs.end_of.Statement.{statement}
+use Rattle.device_decisions.proofs.end_of.Tie as tie
+
+returns : tie.Need-returns
+returns c = rw (c .if1 .taken, mul-zero, zero-add)
+
+sub-product : tie.Need-sub-product
+sub-product c = search needs
+
+product-requires : tie.Need-product-requires
+product-requires c κs = search needs
+
+add-result : tie.Need-add-result
+add-result c =
+    let s = c .before .before in
+    omega (arith, c .product .ensures, words-product (s .args .fields .size) (s .args .fields .total - 1) (search needs) (search needs))
+
+returns-2 : tie.Need-returns-2
+returns-2 c = search needs
+
+pub end-of-spec : {M : Type 1} → statement M
+end-of-spec = tie.close (tie.spec returns sub-product product-requires add-result returns-2)
