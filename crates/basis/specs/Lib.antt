@@ -1,3 +1,4 @@
 pub mod Choice
 pub mod Bytes
 pub mod Cases
+pub mod Numbers

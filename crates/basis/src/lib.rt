@@ -1,5 +1,7 @@
 // What the crates above share: the lesser of two numbers, bytes and WORDs at a place of a slice, and
 // the one way in which a buffer is written.
+pub mod number;
+
 ghost use mathlib.Core.Path.{_≡_};
 ghost use Prim.Native.Nat.{_+_, _*_, _≤_, min};
 ghost use lib.ListN.{length, getD};

@@ -5,6 +5,7 @@ use mathlib.Core.List.{List, _++_}
 use lib.Dec.{eqb, leb, ltb}
 use lib.ListN.{length, take, drop}
 use Rattle.basis.specs.Choice.{pick}
+use Rattle.basis.specs.Numbers.{badMark, cutShort}
 use Rattle.basis.specs.Bytes.{wordAt, wordBytes}
 
 -- a record's mark, its two bytes as a WORD: 4C 3E toward the device, 4C 3C from it
@@ -45,9 +46,9 @@ wrongMark mark = not (eqb mark (markOf true)) && not (eqb mark (markOf false))
 unfoldable pub itemAt : (capture : List ℕ) (at : ℕ) → Item
 itemAt capture at =
     pick (leb (length capture) at) Item.end
-    (pick (eqb (left capture at) 1) (Item.fault 21)
-    (pick (wrongMark (markAt capture at)) (Item.fault 20)
-    (pick (ltb (left capture at) (headLength + lengthAt capture at)) (Item.fault 21)
+    (pick (eqb (left capture at) 1) (Item.fault cutShort)
+    (pick (wrongMark (markAt capture at)) (Item.fault badMark)
+    (pick (ltb (left capture at) (headLength + lengthAt capture at)) (Item.fault cutShort)
     (Item.found (eqb (markAt capture at) (markOf true)) (at + headLength) (lengthAt capture at)))))
 
 -- the next place: behind a record; after the end, 20 and 21 the place stands

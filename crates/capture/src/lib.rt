@@ -16,12 +16,6 @@ const FROM_DEVICE: u16 = 0x4C3C;
 // The bytes of a record before its message: mark and length.
 const HEAD_LENGTH: usize = 4;
 
-// 01's number for a wrong mark.
-pub const WRONG_MARK: u8 = 20;
-
-// 01's number for a record cut short; 1 byte left is one too.
-pub const CUT_SHORT: u8 = 21;
-
 // What stands at a place of a capture.
 pub enum Step {
     // A whole record. Its message is length bytes from start on; the next place is behind it.
@@ -32,7 +26,7 @@ pub enum Step {
     },
     // Nothing is left.
     End,
-    // No record: WRONG_MARK or CUT_SHORT.
+    // No record: BAD_MARK or CUT_SHORT.
     Fault(u8),
 }
 
@@ -58,15 +52,15 @@ fn step_at(capture: &[u8], at: usize) -> Step
     }
     let left = capture.len() - at;
     if left == 1 {
-        return Step::Fault(CUT_SHORT);
+        return Step::Fault(basis::number::CUT_SHORT);
     }
     let mark = basis::word_at(capture, at);
     if wrong_mark(mark) {
-        return Step::Fault(WRONG_MARK);
+        return Step::Fault(basis::number::BAD_MARK);
     }
     let length = basis::word_at(capture, at + 2) as usize;
     if left < HEAD_LENGTH + length {
-        Step::Fault(CUT_SHORT)
+        Step::Fault(basis::number::CUT_SHORT)
     } else {
         let start = at + HEAD_LENGTH;
         Step::Record {

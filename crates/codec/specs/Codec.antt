@@ -5,6 +5,7 @@ use mathlib.Core.List.{List, [], _∷_, _++_}
 use lib.Dec.{eqb, ltb}
 use lib.ListN.{length, drop, getD, set}
 use Rattle.basis.specs.Choice.{pick}
+use Rattle.basis.specs.Numbers.{badData, shortReply}
 use Rattle.basis.specs.Bytes.{wordBytes, same, over}
 use Rattle.checksum.specs.Check.{messageCheck}
 use Rattle.message.specs.Recognition.{recognition}
@@ -38,16 +39,16 @@ module _ (t : Table) where
   readOf supported pcp bytes =
       let n : ℕ = recognition supported pcp bytes in
       let m : t .Message = t .fields (getD bytes 3 0) (drop 8 bytes) in
-      pick (eqb n 0) (pick (t .valid m && same (t .content m) (drop 8 bytes)) (found m) (refused 8)) (refused n)
+      pick (eqb n 0) (pick (t .valid m && same (t .content m) (drop 8 bytes)) (found m) (refused badData)) (refused n)
 
   -- the fields (8); on 0 the message fills the front of the buffer and the rest stays
   abbrev pub filled : Reading (t .Message) → List ℕ → Sent
-  filled (found m) buffer = pick (t .valid m) (record { number = 0; length = length (bytesOf m); buffer = over (bytesOf m) buffer }) (unsent 8 buffer)
-  filled (refused n) buffer = unsent 8 buffer
+  filled (found m) buffer = pick (t .valid m) (record { number = 0; length = length (bytesOf m); buffer = over (bytesOf m) buffer }) (unsent badData buffer)
+  filled (refused n) buffer = unsent badData buffer
 
   -- the buffer (15), then the fields
   unfoldable pub writeOf : Reading (t .Message) → List ℕ → Sent
-  writeOf r buffer = pick (ltb (length buffer) (t .room)) (unsent 15 buffer) (filled r buffer)
+  writeOf r buffer = pick (ltb (length buffer) (t .room)) (unsent shortReply buffer) (filled r buffer)
 
   -- a message that is sent into a buffer with room for it, or the number why there is none
   unfoldable pub said : Reading (t .Message) → List ℕ → Sent

@@ -89,7 +89,7 @@ pub fn read_to_device(supported: bool, pcp: bool, message: &[u8]) -> ToDevice
     if message::device_valid(read, version, content) & (8 + len == message.len()) {
         read
     } else {
-        ToDevice::Refused(8)
+        ToDevice::Refused(basis::number::BAD_DATA)
     }
 }
 
@@ -107,6 +107,6 @@ pub fn read_to_gateway(supported: bool, pcp: bool, message: &[u8]) -> ToGateway
     if message::gateway_valid(read, version) & (8 + len == message.len()) {
         read
     } else {
-        ToGateway::Refused(8)
+        ToGateway::Refused(basis::number::BAD_DATA)
     }
 }

@@ -94,13 +94,13 @@ pub fn write_to_device(
 {
     if out.len() < ToDevice::ROOM {
         return Written {
-            number: 15,
+            number: basis::number::SHORT_REPLY,
             length: 0,
         };
     }
     if !message::device_valid(message, version, content) {
         return Written {
-            number: 8,
+            number: basis::number::BAD_DATA,
             length: 0,
         };
     }
@@ -115,13 +115,13 @@ pub fn write_to_gateway(message: ToGateway, version: [u8; 16], out: &mut [u8]) -
 {
     if out.len() < ToGateway::ROOM {
         return Written {
-            number: 15,
+            number: basis::number::SHORT_REPLY,
             length: 0,
         };
     }
     if !message::gateway_valid(message, version) {
         return Written {
-            number: 8,
+            number: basis::number::BAD_DATA,
             length: 0,
         };
     }

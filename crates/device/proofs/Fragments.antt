@@ -1,17 +1,15 @@
 -- The rule of a fragment (21), test by test. Assumes nothing.
 use Prim.Native.Nat.{ℕ}
-use mathlib.Core.Path.{_≡_, sym, _∙_}
+use mathlib.Core.Path.{_≡_, _∙_}
 use mathlib.Core.List.{List}
-use lib.Dec.{leb}
+use lib.Dec.{eqb}
 use lib.ListN.{length}
 use borrow.Author.Tests.{eq-eqb, ne-eqb}
 use Rattle.basis.specs.Choice.{pick}
 use Rattle.basis.proofs.Choosing.{pick-yes, pick-no}
-use Rattle.bitmap.specs.Bitmap.{marked}
 use Rattle.device_record.specs.declared.Device.{Device}
 use Rattle.device_record.specs.Record.{idle, loading, inPhase}
-use Rattle.device_decisions.proofs.Tested.{firstOf, chosen, all-passed}
-use Rattle.device.specs.Rules.{refuse, moved, store, fragmentLength, onFragment}
+use Rattle.device.specs.Rules.{refuse, moved, store, fragmentNumber, onFragment}
 
 module _ (d : Device) (image map reply : List ℕ) (result index : ℕ) (content : List ℕ) where
   pub not-loading : (d .phase ≡ loading → ⊥) → onFragment d image map reply result index content ≡ refuse d image map reply 9
@@ -28,25 +26,16 @@ module _ (d : Device) (image map reply : List ℕ) (result index : ℕ) (content
       unfolding onFragment
       unknown e = pick-yes _ _ _ (eq-eqb (d .phase) loading p) ∙ pick-no _ _ _ (ne-eqb result 0x80 not80) ∙ pick-yes _ _ _ (eq-eqb result 0x81 e)
 
-      module _ (not81 : result ≡ 0x81 → ⊥) (n : ℕ)
-          (number : n ≡ firstOf (leb (d .fields .total) index) (fragmentLength (d .fields) index (length content)) (marked map index)) where
+      module _ (not81 : result ≡ 0x81 → ⊥) (n : ℕ) (number : n ≡ fragmentNumber (d .fields) index (length content) map) where
         tested : onFragment d image map reply result index content
-            ≡ pick (leb (d .fields .total) index) (refuse d image map reply 10)
-            (pick (fragmentLength (d .fields) index (length content))
-            (pick (marked map index) (refuse d image map reply 12) (store d image map reply index content))
-            (refuse d image map reply 11))
+            ≡ pick (eqb n 0) (store d image map reply index content) (refuse d image map reply n)
         unfolding onFragment
         tested =
-            pick-yes _ _ _ (eq-eqb (d .phase) loading p) ∙ pick-no _ _ _ (ne-eqb result 0x80 not80) ∙ pick-no _ _ _ (ne-eqb result 0x81 not81)
+            rw number
+            (pick-yes _ _ _ (eq-eqb (d .phase) loading p) ∙ pick-no _ _ _ (ne-eqb result 0x80 not80) ∙ pick-no _ _ _ (ne-eqb result 0x81 not81))
 
         pub refused-first : (n ≡ 0 → ⊥) → onFragment d image map reply result index content ≡ refuse d image map reply n
-        refused-first h =
-            tested
-            ∙ chosen (refuse d image map reply) (store d image map reply index content) (leb (d .fields .total) index)
-            (fragmentLength (d .fields) index (length content)) (marked map index) (λ e. h (number ∙ e))
-            ∙ rw number
+        refused-first h = tested ∙ pick-no _ _ _ (ne-eqb n 0 h)
 
         pub stores : n ≡ 0 → onFragment d image map reply result index content ≡ store d image map reply index content
-        stores e =
-            let (late, whole, again) = all-passed _ _ _ (sym number ∙ e) in
-            tested ∙ pick-no _ _ _ late ∙ pick-yes _ _ _ whole ∙ pick-no _ _ _ again
+        stores e = tested ∙ pick-yes _ _ _ (eq-eqb n 0 e)

@@ -24,7 +24,7 @@ use Rattle.device_record.specs.Record.{idle, loading, loaded, acked, failed, in
 use Rattle.bitmap.specs.Bitmap.{marked, mark, cleared, lowestMissing}
 use Rattle.device.specs.declared.Finished.{Finished}
 use Rattle.device.specs.Rules as rules
-use Rattle.device.specs.Rules.{After, announceResult, resumes, fragmentLength, completion, executeResult, refuse, moved, replied, begin, store, onQuery, onAnnounce, onFragment, onDownloadReply, onExecute, onResultReply, handle, receiveOf, wanted, nextMessageOf, installFinishedOf}
+use Rattle.device.specs.Rules.{After, announceResult, resumes, fragmentLength, fragmentNumber, completion, executeResult, refuse, moved, replied, begin, store, onQuery, onAnnounce, onFragment, onDownloadReply, onExecute, onResultReply, handle, receiveOf, wanted, nextMessageOf, installFinishedOf}
 use Rattle.device.proofs.Holds.{lastAfter}
 
 -- ---- calls, and what they leave
@@ -267,12 +267,11 @@ module _ (d : Device) (image map : List ℕ) where
         by-cases (P (found (fragment result index bytes)))
         (λ p. by-cases (P _) (λ t. moves idle (gives-up condition index bytes (ap r (eqb-true result 0x80 t)) (eqb-true _ _ p) refl) refl)
         (λ t. by-cases (P _) (λ u. still 0 [] (skips condition index bytes (ap r (eqb-true result 0x81 u)) refl refl) refl)
-        (λ u. by-cases (P _) (λ _. quiet _ 10 (λ z. omega arith))
-        (λ b. by-cases (P _)
-        (λ l. by-cases (P _) (λ _. quiet _ 12 (λ z. omega arith))
-        (λ m. stores condition index bytes (ap r (fragment-result result index bytes v (eqb-false _ _ t) (eqb-false _ _ u)))
-        (record { phase = eqb-true _ _ p; below = leb-false _ _ b; long = l; new = m }) refl))
-        (λ _. quiet _ 11 (λ z. omega arith))))))
+        (λ u. by-cases (P _)
+        (λ n. let (below, long, new) = fragment-passed (d .fields) index (length bytes) map (eqb-true _ 0 n) in
+        stores condition index bytes (ap r (fragment-result result index bytes v (eqb-false _ _ t) (eqb-false _ _ u)))
+        (record { phase = eqb-true _ _ p; below = below; long = long; new = new }) refl)
+        (λ n. quiet _ _ (eqb-false _ 0 n)))))
         (λ _. quiet _ 9 (λ z. omega arith))
 
     executed : P (found execute) (onExecute d image map reply condition)
@@ -342,13 +341,13 @@ module _ (d : Device) (image map : List ℕ) where
   pub ask-does : (reply : List ℕ) → Does d image map asks (askOut d image map reply)
   unfolding S nextMessageOf
   ask-does reply =
-      let n : ℕ = refusal ((15, leb deviceRoom (length reply)) ∷ (29, recordOk d) ∷ (14, roomOk d image map) ∷ []) in
+      let n : ℕ = askRefusal d image map reply in
       by-cases (S reply) {t = eqb n 0} {a = wanted d map} {b = refused n} (λ _. wants reply) (λ t. nothing reply n (eqb-false n 0 t))
 
   pub install-does : (code : ℕ) → Does d image map (installs code) (installOut d image map code)
   unfolding installFinishedOf
   install-does code =
-      let n : ℕ = refusal ((29, recordOk d) ∷ (9, eqb (d .phase) installing) ∷ (16, installCode code) ∷ []) in
+      let n : ℕ = finishRefusal d code in
       by-cases (λ (r : Finished). Does d image map (installs code) (out (r .number) (r .device) image map []))
       (λ t.
       let (_, e₁) = passed 28 (recordOk d) _ (eqb-true n 0 t) in

@@ -4,6 +4,7 @@ use mathlib.Core.Path.{_≡_}
 use mathlib.Core.Logic.{_≢_}
 use mathlib.Core.Bool.{Bool}
 use mathlib.Core.List.{List}
+use Rattle.basis.specs.Numbers.{badRecord}
 use Rattle.codec.specs.Codec.{Sent, unsent}
 use Rattle.device_record.specs.declared.Device.{Device}
 use Rattle.device_record.specs.Record.{newOf}
@@ -16,7 +17,7 @@ pub record Unusable (d : Device) : Type 0 where
       (a .number ≢ 0) × (a ≡ refuse d image map reply (a .number))
   pub next-message : (image map reply : List ℕ) → let s : Sent = nextMessageOf d image map reply in
       (s .number ≢ 0) × (s ≡ unsent (s .number) reply)
-  pub install-finished : (code : ℕ) → installFinishedOf d code ≡ record { number = 29; device = d }
+  pub install-finished : (code : ℕ) → installFinishedOf d code ≡ record { number = badRecord; device = d }
 
 abbrev pub RefusedMaking : Type 0
 RefusedMaking = (version : List ℕ) → newOf version .number ≢ 0 → Unusable (newOf version .device)

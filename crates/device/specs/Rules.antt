@@ -5,16 +5,17 @@ use mathlib.Core.List.{List, [], _∷_}
 use lib.Dec.{eqb, leb, ltb}
 use lib.ListN.{length}
 use Rattle.basis.specs.Choice.{pick, refusal}
+use Rattle.basis.specs.Numbers.{noUse, badIndex, badFragmentLength, alreadyStored, unknownCondition, badMemory, shortReply, badInstallCode, badRecord}
 use Rattle.basis.specs.Bytes.{over, patched}
 use Rattle.message.specs.Limits.{deviceRoom}
 use Rattle.message.specs.Messages.{DeviceMessage, query, announce, fragment, downloadReply, execute, resultReply, GatewayMessage, queryReply, announceReply, fragmentRequest, downloadReport, executeReply, resultReport, installCode, Reading, found, refused, toDevice, toGateway}
 use Rattle.codec.specs.Codec.{Sent, bytesOf, readOf, said}
 use Rattle.message.specs.declared.Fields.{Fields}
 use Rattle.device_record.specs.declared.Device.{Device}
-use Rattle.device_record.specs.Record.{idle, loading, loaded, acked, failed, installing, reporting, conditionOk, inPhase, begun, withFragment, withOutcome, recordOk, roomOk, mapBytes}
+use Rattle.device_record.specs.Record.{idle, loading, loaded, acked, failed, installing, reporting, conditionOk, inPhase, begun, withFragment, withOutcome, mapBytes, receiveRefusal, askRefusal, finishRefusal}
 use Rattle.bitmap.specs.Bitmap.{marked, mark, cleared, lowestMissing}
 use Rattle.device.specs.declared.Finished.{Finished}
-unfoldable pub use Rattle.device_decisions.specs.Decisions.{announceResult, sameFields, resumes, fragmentLength, passes, completion, executeResult}
+unfoldable pub use Rattle.device_decisions.specs.Decisions.{announceResult, sameFields, resumes, fragmentLength, fragmentNumber, lastAfter, passes, completion, executeResult}
 
 -- what a call leaves: the number, the length of the reply, the record, and the three buffers
 pub record After : Type 0 where
@@ -57,7 +58,7 @@ module _ (d : Device) (image map reply : List ℕ) where
   store index bytes =
       let f : Fields = d .fields in
       let stored : ℕ = d .stored + 1 in
-      let last : ℕ = pick (eqb (index + 1) (f .total)) (length bytes) (d .last) in
+      let last : ℕ = lastAfter f index (length bytes) (d .last) in
       let filled : List ℕ = patched (index * f .size) bytes image in
       record {
         number = 0;
@@ -83,17 +84,16 @@ module _ (d : Device) (image map reply : List ℕ) where
       pick (eqb (d .phase) loading)
       (pick (eqb result 0x80) (moved (inPhase idle d))
       (pick (eqb result 0x81) (moved d)
-      (pick (leb (d .fields .total) index) (refuse 10)
-      (pick (fragmentLength (d .fields) index (length bytes))
-      (pick (marked map index) (refuse 12) (store index bytes))
-      (refuse 11)))))
-      (refuse 9)
+      (pick (eqb (fragmentNumber (d .fields) index (length bytes) map) handled)
+      (store index bytes)
+      (refuse (fragmentNumber (d .fields) index (length bytes) map)))))
+      (refuse noUse)
 
   unfoldable pub onDownloadReply : (result : ℕ) → After
   onDownloadReply result =
       pick (eqb (d .phase) loaded) (moved (inPhase (pick (eqb result 0x00) acked idle) d))
       (pick (eqb (d .phase) failed) (moved (inPhase idle d))
-      (refuse 9))
+      (refuse noUse))
 
   unfoldable pub onExecute : (condition : ℕ) → After
   onExecute condition =
@@ -101,7 +101,7 @@ module _ (d : Device) (image map reply : List ℕ) where
       replied (pick (eqb result 0x00) (inPhase installing d) d) (executeReply result)
 
   unfoldable pub onResultReply : After
-  onResultReply = pick (eqb (d .phase) reporting) (moved (inPhase idle d)) (refuse 9)
+  onResultReply = pick (eqb (d .phase) reporting) (moved (inPhase idle d)) (refuse noUse)
 
   -- what a reading leads to
   unfoldable pub handle : (condition : ℕ) → Reading DeviceMessage → After
@@ -116,8 +116,7 @@ module _ (d : Device) (image map reply : List ℕ) where
   -- a message is given: 15, 13, 29, 14, 1 to 8, then the message's own rule
   unfoldable pub receiveOf : (supported pcp : Bool) (condition : ℕ) (message : List ℕ) → After
   receiveOf supported pcp condition message =
-      let n : ℕ =
-      refusal ((15, leb deviceRoom (length reply)) ∷ (13, conditionOk condition) ∷ (29, recordOk d) ∷ (14, roomOk d image map) ∷ []) in
+      let n : ℕ = receiveRefusal d condition image map reply in
       pick (eqb n 0) (handle condition (readOf toDevice supported pcp message)) (refuse n)
 
 -- ---- asking for the next message
@@ -126,16 +125,16 @@ module _ (d : Device) (image map reply : List ℕ) where
 unfoldable pub wanted : Device → (map : List ℕ) → Reading GatewayMessage
 wanted d map =
     let index : ℕ = lowestMissing map (d .fields .total) in
-    pick (eqb (d .phase) loading) (pick (ltb index (d .fields .total)) (found (fragmentRequest (d .fields .version) index)) (refused 29))
+    pick (eqb (d .phase) loading) (pick (ltb index (d .fields .total)) (found (fragmentRequest (d .fields .version) index)) (refused badRecord))
     (pick (eqb (d .phase) loaded) (found (downloadReport 0x00))
     (pick (eqb (d .phase) failed) (found (downloadReport 0x07))
     (pick (eqb (d .phase) reporting) (found (resultReport (d .outcome) (d .running)))
-    (refused 9))))
+    (refused noUse))))
 
 -- 15, 29, 14, then what there is to say
 unfoldable pub nextMessageOf : Device → (image map reply : List ℕ) → Sent
 nextMessageOf d image map reply =
-    let n : ℕ = refusal ((15, leb deviceRoom (length reply)) ∷ (29, recordOk d) ∷ (14, roomOk d image map) ∷ []) in
+    let n : ℕ = askRefusal d image map reply in
     said toGateway (pick (eqb n 0) (wanted d map) (refused n)) reply
 
 -- ---- the installer's end
@@ -143,7 +142,7 @@ nextMessageOf d image map reply =
 -- 29, 9, 16; its code is kept, and with 00 the target becomes the running version
 unfoldable pub installFinishedOf : Device → (code : ℕ) → Finished
 installFinishedOf d code =
-    let n : ℕ = refusal ((29, recordOk d) ∷ (9, eqb (d .phase) installing) ∷ (16, installCode code) ∷ []) in
+    let n : ℕ = finishRefusal d code in
     pick (eqb n 0)
     (record { number = 0; device = withOutcome code (pick (eqb code 0x00) (d .fields .version) (d .running)) d })
     (record { number = n; device = d })

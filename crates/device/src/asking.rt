@@ -31,7 +31,7 @@ fn wanted_fragment(total: u16, map: &[u8]) -> ToGateway
     if index < total as usize {
         ToGateway::FragmentRequest(index as u16)
     } else {
-        ToGateway::Refused(29)
+        ToGateway::Refused(basis::number::BAD_RECORD)
     }
 }
 
@@ -48,6 +48,6 @@ pub(crate) fn wanted(device: Device, map: &[u8]) -> ToGateway
         Device::LOADED => ToGateway::DownloadReport(0x00),
         Device::FAILED => ToGateway::DownloadReport(0x07),
         Device::REPORTING => ToGateway::ResultReport(device.outcome),
-        _ => ToGateway::Refused(9),
+        _ => ToGateway::Refused(basis::number::NO_USE),
     }
 }

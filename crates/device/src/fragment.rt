@@ -62,7 +62,7 @@ pub(crate) fn on_fragment(
         return refused(device, refusal(message));
     };
     if device.phase != Device::LOADING {
-        return refused(device, 9);
+        return refused(device, basis::number::NO_USE);
     }
     if result == 0x80 {
         return moved(in_phase(device, Device::IDLE));

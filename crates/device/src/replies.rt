@@ -27,7 +27,7 @@ pub(crate) fn refusal(message: ToDevice) -> u8
 {
     match message {
         ToDevice::Refused(number) => number,
-        _ => 8,
+        _ => basis::number::NO_USE,
     }
 }
 
@@ -117,7 +117,7 @@ pub(crate) fn on_download_reply(device: Device, message: ToDevice) -> Answer
     if device.phase == Device::FAILED {
         return moved(in_phase(device, Device::IDLE));
     }
-    refused(device, 9)
+    refused(device, basis::number::NO_USE)
 }
 
 // 23: the order to install.
@@ -156,6 +156,6 @@ pub(crate) fn on_result_reply(device: Device, message: ToDevice) -> Answer
     if device.phase == Device::REPORTING {
         moved(in_phase(device, Device::IDLE))
     } else {
-        refused(device, 9)
+        refused(device, basis::number::NO_USE)
     }
 }

@@ -1,17 +1,16 @@
 -- What the tests of a fragment tell. Assumes nothing.
 use Prim.Native.Nat.{ℕ, _+_, _≤_, _<_}
 use native.Mathlib.Omega.{arith}
-use mathlib.Core.Path.{_≡_, refl, sym, _∙_}
-use mathlib.Core.Bool.{Bool, true, false}
+use mathlib.Core.Path.{_≡_}
+use mathlib.Core.Bool.{Bool, true, false, not}
 use mathlib.Core.List.{List}
-use lib.Dec.{leb}
-use borrow.Author.Tests.{eqb-true, leb-false}
-use Rattle.basis.specs.Choice.{pick}
-use Rattle.basis.proofs.Choosing.{by-cases}
+use lib.Dec.{ltb}
+use borrow.Author.Tests.{eqb-true, ltb-true, not-true}
+use Rattle.basis.proofs.Choosing.{by-cases, passed}
 use Rattle.bitmap.specs.Bitmap.{marked}
 use Rattle.message.specs.declared.Fields.{Fields}
 use Rattle.device_record.proofs.Ranges.{between}
-use Rattle.device_decisions.specs.Decisions.{fragmentLength}
+use Rattle.device_decisions.specs.Decisions.{fragmentLength, fragmentNumber}
 
 -- a fragment's length: at most size; size itself for all but the last
 pub fragment-fits : (f : Fields) (index n : ℕ) → fragmentLength f index n ≡ true → n ≤ f .size
@@ -35,27 +34,12 @@ fragment-some f index n =
     (λ last e s. between 1 (f .size) n e .0)
     (λ other e s. omega (arith, eqb-true n (f .size) e))
 
--- a number for the first of three tests that refuses, and what is chosen by the same tests
-abbrev pub firstOf : (late whole again : Bool) → ℕ
-firstOf late whole again = pick late 10 (pick whole (pick again 12 0) 11)
-
-pub chosen : {A : Type 0} (f : ℕ → A) (a : A) (late whole again : Bool) → (firstOf late whole again ≡ 0 → ⊥)
-    → pick late (f 10) (pick whole (pick again (f 12) a) (f 11)) ≡ f (firstOf late whole again)
-unfolding pick
-chosen f a true whole again h = refl
-chosen f a false true true h = refl
-chosen f a false true false h = absurd (h refl)
-chosen f a false false again h = refl
-
-pub all-passed : (late whole again : Bool) → firstOf late whole again ≡ 0 → (late ≡ false) × (whole ≡ true) × (again ≡ false)
-unfolding pick
-all-passed true whole again e = absurd (omega (arith, e))
-all-passed false true true e = absurd (omega (arith, e))
-all-passed false true false e = (refl, refl, refl)
-all-passed false false again e = absurd (omega (arith, e))
-
-pub within : (f : Fields) (index len : ℕ) (map : List ℕ) (n : ℕ) → n ≡ firstOf (leb (f .total) index) (fragmentLength f index len) (marked map index) → n ≡ 0
-    → (index < f .total) × (fragmentLength f index len ≡ true)
-within f index len map n number e =
-    let (late, whole, _) = all-passed _ _ _ (sym number ∙ e) in
-    (leb-false (f .total) index late, whole)
+-- what is known where 10, 11 and 12 do not arise
+pub fragment-passed : (f : Fields) (index n : ℕ) (map : List ℕ) → fragmentNumber f index n map ≡ 0
+    → (index < f .total) × (fragmentLength f index n ≡ true) × (marked map index ≡ false)
+unfolding fragmentNumber
+fragment-passed f index n map e =
+    let (below, e₁) = passed 9 (ltb index (f .total)) _ e in
+    let (long, e₂) = passed 10 (fragmentLength f index n) _ e₁ in
+    let (new, _) = passed 11 (not (marked map index)) _ e₂ in
+    (ltb-true index (f .total) below, long, not-true _ new)

@@ -4,9 +4,11 @@ use mathlib.Core.Bool.{Bool, _&&_, _||_, not}
 use mathlib.Core.List.{List, [], _∷_}
 use lib.Dec.{eqb, leb, ltb}
 use lib.ListN.{length, take}
-use Rattle.basis.specs.Choice.{pick, oneOf}
+use Rattle.basis.specs.Choice.{pick, refusal, oneOf}
+use Rattle.basis.specs.Numbers.{badIndex, badFragmentLength, alreadyStored}
 use Rattle.basis.specs.Bytes.{same}
 use Rattle.checksum.specs.Check.{checkOf}
+use Rattle.bitmap.specs.Bitmap.{marked}
 use Rattle.message.specs.declared.Fields.{Fields}
 use Rattle.device_record.specs.declared.Device.{Device}
 use Rattle.device_record.specs.Record.{loading, loaded, acked, failed, installing, holding, mapBytes}
@@ -31,6 +33,16 @@ resumes d f = holding (d .phase) && (not (eqb (f .code) 0) && sameFields f (d .f
 -- 21: size long; the last may be 1 to size
 unfoldable pub fragmentLength : Fields → (index length : ℕ) → Bool
 fragmentLength f index n = pick (eqb (index + 1) (f .total)) (leb 1 n && leb n (f .size)) (eqb n (f .size))
+
+-- 21: 10, 11 and 12 in order, else 0
+unfoldable pub fragmentNumber : Fields → (index length : ℕ) (map : List ℕ) → ℕ
+fragmentNumber f index n map =
+    refusal
+    ((badIndex, ltb index (f .total)) ∷ (badFragmentLength, fragmentLength f index n) ∷ (alreadyStored, not (marked map index)) ∷ [])
+
+-- the last length, once a fragment of n bytes is stored
+abbrev pub lastAfter : Fields → (index n last : ℕ) → ℕ
+lastAfter f index n last = pick (eqb (index + 1) (f .total)) n last
 
 -- the completed bytes pass where the code is 0 or their check
 unfoldable pub passes : (code : ℕ) → List ℕ → Bool

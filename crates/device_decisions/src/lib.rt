@@ -12,8 +12,7 @@ ghost use mathlib.Core.Path.{_≡_};
 ghost use Prim.Native.Nat.{_+_, _*_, _-_};
 ghost use lib.Dec.{eqb, leb};
 ghost use Rattle.basis.specs.Choice.{pick};
-ghost use Rattle.bitmap.specs.Bitmap.{marked};
-ghost use Rattle.device_decisions.specs.Decisions.{announceResult, sameFields, resumes, fragmentLength, passes, completion, executeResult};
+ghost use Rattle.device_decisions.specs.Decisions.{announceResult, sameFields, resumes, fragmentLength, fragmentNumber, lastAfter, passes, completion, executeResult};
 
 // 20: what an announcement is answered with, tests in order.
 pub fn announce_result(
@@ -70,11 +69,17 @@ fn fragment_length(fields: Fields, index: u16, len: usize) -> bool
 
 // 21: the numbers 10, 11 and 12 in order, else 0.
 pub fn fragment_number(fields: Fields, index: u16, len: usize, map: &[u8]) -> u8
-    ensures { λ r. ⌜ r ≡ pick (leb (fields .total) index) 10 (pick (fragmentLength fields index len) (pick (marked (now (map .entry)) index) 12 0) 11) ⌝ }
+    ensures { λ r. ⌜ r ≡ fragmentNumber fields index len (now (map .entry)) ⌝ }
 {
-    let again = pick(bitmap::marked(map, index as usize), 12, 0);
-    let long = unless(fragment_length(fields, index, len), 11, again);
-    pick(fields.total <= index, 10, long)
+    let below = index < fields.total;
+    let long = fragment_length(fields, index, len);
+    let new = !bitmap::marked(map, index as usize);
+    let stored = unless(new, basis::number::ALREADY_STORED, basis::number::HANDLED);
+    unless(
+        below,
+        basis::number::BAD_INDEX,
+        unless(long, basis::number::BAD_FRAGMENT_LENGTH, stored),
+    )
 }
 
 // The completed bytes pass: the package has no check code, or it is theirs.
@@ -116,7 +121,7 @@ pub fn completion(stored: u16, last: u16, fields: Fields, image: &[u8]) -> u8
 
 // 21: the length of the last fragment, once one more is stored.
 pub fn last_length(device: Device, index: u16, len: u16) -> u16
-    ensures { λ r. ⌜ r ≡ pick (eqb (index + 1) (device .fields .total)) len (device .last) ⌝ }
+    ensures { λ r. ⌜ r ≡ lastAfter (device .fields) index len (device .last) ⌝ }
 {
     let fields = device.fields;
     if index as usize + 1 == fields.total as usize {

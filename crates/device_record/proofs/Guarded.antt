@@ -2,15 +2,14 @@
 use Prim.Native.Nat.{ℕ, _≤_}
 use mathlib.Core.Path.{_≡_}
 use mathlib.Core.Bool.{true}
-use mathlib.Core.List.{List, [], _∷_}
+use mathlib.Core.List.{List}
 use lib.Dec.{leb}
 use lib.ListN.{length}
 use borrow.Author.Tests.{leb-true}
-use Rattle.basis.specs.Choice.{refusal}
 use Rattle.basis.proofs.Choosing.{passed}
 use Rattle.message.specs.Limits.{deviceRoom}
 use Rattle.device_record.specs.declared.Device.{Device}
-use Rattle.device_record.specs.Record.{conditionOk, recordOk, roomOk}
+use Rattle.device_record.specs.Record.{conditionOk, recordOk, roomOk, receiveRefusal, askRefusal}
 
 module _ (d : Device) (image map reply : List ℕ) where
   -- the record and the buffers that were lent keep the rules
@@ -19,14 +18,14 @@ module _ (d : Device) (image map reply : List ℕ) where
     pub kept : recordOk d ≡ true
     pub held : roomOk d image map ≡ true
 
-  pub asking-passed : refusal ((15, leb deviceRoom (length reply)) ∷ (29, recordOk d) ∷ (14, roomOk d image map) ∷ []) ≡ 0 → Lent
+  pub asking-passed : askRefusal d image map reply ≡ 0 → Lent
   asking-passed e =
       let (room, e₁) = passed 14 (leb deviceRoom (length reply)) _ e in
       let (kept, e₂) = passed 28 (recordOk d) _ e₁ in
       record { room = leb-true _ _ room; kept = kept; held = passed 13 (roomOk d image map) _ e₂ .0 }
 
   pub receiving-passed : (condition : ℕ)
-      → refusal ((15, leb deviceRoom (length reply)) ∷ (13, conditionOk condition) ∷ (29, recordOk d) ∷ (14, roomOk d image map) ∷ []) ≡ 0
+      → receiveRefusal d condition image map reply ≡ 0
       → (conditionOk condition ≡ true) × Lent
   receiving-passed condition e =
       let (room, e₁) = passed 14 (leb deviceRoom (length reply)) _ e in

@@ -4,8 +4,9 @@ use mathlib.Core.Bool.{Bool, true, _&&_, not}
 use mathlib.Core.List.{List, [], _∷_}
 use lib.Dec.{eqb, leb}
 use lib.ListN.{length, replicate}
-use Rattle.basis.specs.Choice.{pick, oneOf}
-use Rattle.message.specs.Limits.{sizeOk, totalOk}
+use Rattle.basis.specs.Choice.{pick, refusal, oneOf}
+use Rattle.basis.specs.Numbers.{noUse, unknownCondition, badMemory, shortReply, badInstallCode, badVersionText, badRecord}
+use Rattle.message.specs.Limits.{deviceRoom, sizeOk, totalOk}
 use Rattle.message.specs.Version.{goodVersion}
 use Rattle.message.specs.Messages.{installCode}
 use Rattle.message.specs.declared.Fields.{Fields}
@@ -69,7 +70,7 @@ withOutcome code running d =
 -- a fresh record from a running version alone; a bad version text is 17, with a record that 29 refuses
 unfoldable pub newOf : List ℕ → Made
 newOf version =
-    pick (goodVersion version) (record { number = 0; device = fresh version }) (record { number = 17; device = fresh (replicate 16 0) })
+    pick (goodVersion version) (record { number = 0; device = fresh version }) (record { number = badVersionText; device = fresh (replicate 16 0) })
 
 -- ---- 29 and 14
 
@@ -95,3 +96,22 @@ roomOk d image map =
     pick (holding (d .phase))
     (leb (d .fields .size * d .fields .total) (length image) && leb (mapBytes (d .fields .total)) (length map))
     true
+
+-- ---- what each call is refused for before anything is done, in order
+
+-- a message is given
+abbrev pub receiveRefusal : Device → (condition : ℕ) (image map reply : List ℕ) → ℕ
+receiveRefusal d condition image map reply =
+    refusal
+    ((shortReply, leb deviceRoom (length reply)) ∷ (unknownCondition, conditionOk condition) ∷ (badRecord, recordOk d)
+    ∷ (badMemory, roomOk d image map)
+    ∷ [])
+
+-- the next message is asked for
+abbrev pub askRefusal : Device → (image map reply : List ℕ) → ℕ
+askRefusal d image map reply =
+    refusal ((shortReply, leb deviceRoom (length reply)) ∷ (badRecord, recordOk d) ∷ (badMemory, roomOk d image map) ∷ [])
+
+-- the installer's end
+abbrev pub finishRefusal : Device → (code : ℕ) → ℕ
+finishRefusal d code = refusal ((badRecord, recordOk d) ∷ (noUse, eqb (d .phase) installing) ∷ (badInstallCode, installCode code) ∷ [])

@@ -78,7 +78,7 @@ impl Device {
             }
         } else {
             Made {
-                number: 17,
+                number: basis::number::BAD_VERSION_TEXT,
                 device: record::fresh([0u8; 16]),
             }
         }

@@ -24,7 +24,7 @@ use Rattle.gateway.specs.Inner.{numberOf, OfCode, Sayable, Guarded}
 use Rattle.gateway.proofs.Saying.{offer-allowed}
 
 module _ (g : Gateway) (content reply : List ℕ) (n : ℕ)
-    (tested : n ≡ refusal ((15, leb gatewayRoom (length reply)) ∷ (29, recordOk g) ∷ (14, eqb (length content) (g .length)) ∷ [])) where
+    (tested : n ≡ callRefusal g (length content) (length reply)) where
   pub guarded : n ≡ 0 → Guarded g content reply
   guarded z =
       let (a, p) = passed 14 (leb gatewayRoom (length reply)) _ (sym tested ∙ z) in

@@ -77,7 +77,7 @@ pub starts : (version : List ℕ) (size : ℕ) (content : List ℕ) (checked : B
     → Begun version size content (pick checked (checkOf content) 0) (startOf version size content checked)
 unfolding startOf
 starts version size content checked =
-    let n : ℕ = refusal ((17, goodVersion version) ∷ (18, sizeOk size) ∷ (19, lengthOk (length content) size) ∷ []) in
+    let n : ℕ = gateway.startRefusal version size (length content) in
     by-cases (λ (s : Started). s .number ≡ 0 → Begun version size content (pick checked (checkOf content) 0) s) {t = eqb n 0}
     (λ t _.
     let (v, e₁) = passed 16 (goodVersion version) _ (eqb-true n 0 t) in

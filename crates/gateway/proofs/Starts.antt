@@ -16,7 +16,7 @@ use Rattle.gateway.specs.declared.Started.{Started}
 use Rattle.gateway.specs.Record.{lengthOk, started, startOf}
 
 module _ (version : List ℕ) (size : ℕ) (content : List ℕ) (checked : Bool) (n : ℕ) (g : Gateway)
-    (tested : n ≡ refusal ((17, goodVersion version) ∷ (18, sizeOk size) ∷ (19, lengthOk (length content) size) ∷ [])) where
+    (tested : n ≡ startRefusal version size (length content)) where
   pub start-refused : (n ≡ 0 → ⊥) → g ≡ started (replicate 16 0) 0 0 0
       → _≡_ {A = Started} (record { number = n; gateway = g }) (startOf version size content checked)
   unfolding startOf

@@ -4,6 +4,7 @@ use Prim.Native.Nat.{ℕ, _≤_}
 use mathlib.Core.Path.{_≡_}
 use mathlib.Core.Bool.{true}
 use mathlib.Core.List.{List}
+use Rattle.basis.specs.Numbers.{noUse}
 use lib.ListN.{length}
 use Rattle.message.specs.Limits.{gatewayRoom}
 use Rattle.message.specs.Messages.{DeviceMessage, deviceValid, Reading, found, refused}
@@ -22,12 +23,12 @@ withReply g s = record { number = s .number; length = s .length; gateway = g; re
 -- no handler is given
 abbrev pub numberOf : ToGateway → ℕ
 numberOf (ToGateway.Refused number) = number
-numberOf (ToGateway.QueryReply result) = 9
-numberOf (ToGateway.AnnounceReply result) = 9
-numberOf (ToGateway.FragmentRequest index) = 9
-numberOf (ToGateway.DownloadReport result) = 9
-numberOf (ToGateway.ExecuteReply result) = 9
-numberOf (ToGateway.ResultReport result) = 9
+numberOf (ToGateway.QueryReply result) = noUse
+numberOf (ToGateway.AnnounceReply result) = noUse
+numberOf (ToGateway.FragmentRequest index) = noUse
+numberOf (ToGateway.DownloadReport result) = noUse
+numberOf (ToGateway.ExecuteReply result) = noUse
+numberOf (ToGateway.ResultReport result) = noUse
 
 -- the message that was read has this code; a refusal may have any
 abbrev pub OfCode : ℕ → ToGateway → Type 0

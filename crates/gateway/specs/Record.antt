@@ -5,8 +5,9 @@ use mathlib.Core.List.{List, [], _∷_}
 use lib.Dec.{eqb, leb}
 use lib.ListN.{length, take, drop, replicate}
 use Rattle.basis.specs.Choice.{pick, refusal}
+use Rattle.basis.specs.Numbers.{badMemory, shortReply, badVersionText, badSize, badPackage, badRecord}
 use Rattle.checksum.specs.Check.{checkOf}
-use Rattle.message.specs.Limits.{sizeOk, totalMax}
+use Rattle.message.specs.Limits.{gatewayRoom, sizeOk, totalMax}
 use Rattle.message.specs.Version.{goodVersion}
 use Rattle.message.specs.declared.Fields.{Fields}
 use Rattle.gateway.specs.declared.Gateway.{Gateway}
@@ -26,6 +27,26 @@ run = 3
 
 abbrev pub ended : ℕ
 ended = 4
+
+-- ---- the endings, under the names of the C header
+
+abbrev pub success : ℕ
+success = 0
+
+abbrev pub alreadyRunning : ℕ
+alreadyRunning = 1
+
+abbrev pub notAccepted : ℕ
+notAccepted = 2
+
+abbrev pub downloadFailed : ℕ
+downloadFailed = 3
+
+abbrev pub notExecuted : ℕ
+notExecuted = 4
+
+abbrev pub upgradeFailed : ℕ
+upgradeFailed = 5
 
 -- ---- the package
 
@@ -56,10 +77,15 @@ inPhase phase g = record { phase = phase; ending = g .ending; version = g .versi
 abbrev pub endedWith : ℕ → Gateway → Gateway
 endedWith number g = record { phase = ended; ending = number; version = g .version; size = g .size; length = g .length; code = g .code }
 
+-- what a start is refused for, in order
+abbrev pub startRefusal : (version : List ℕ) (size length : ℕ) → ℕ
+startRefusal version size length =
+    refusal ((badVersionText, goodVersion version) ∷ (badSize, sizeOk size) ∷ (badPackage, lengthOk length size) ∷ [])
+
 -- 17, 18, 19, with a record that 29 refuses; the check code is 0, or the check rule over the package, as the caller chose
 unfoldable pub startOf : (version : List ℕ) (size : ℕ) (content : List ℕ) (checked : Bool) → Started
 startOf version size content checked =
-    let n : ℕ = refusal ((17, goodVersion version) ∷ (18, sizeOk size) ∷ (19, lengthOk (length content) size) ∷ []) in
+    let n : ℕ = startRefusal version size (length content) in
     pick (eqb n 0)
     (record { number = 0; gateway = started version size (length content) (pick checked (checkOf content) 0) })
     (record { number = n; gateway = started (replicate 16 0) 0 0 0 })
@@ -67,4 +93,9 @@ startOf version size content checked =
 -- 29 where it fails: phase, ending number, version, size, length
 unfoldable pub recordOk : Gateway → Bool
 recordOk g =
-    (leb (g .phase) ended && leb (g .ending) 5) && (goodVersion (g .version) && (sizeOk (g .size) && lengthOk (g .length) (g .size)))
+    (leb (g .phase) ended && leb (g .ending) upgradeFailed) && (goodVersion (g .version) && (sizeOk (g .size) && lengthOk (g .length) (g .size)))
+
+-- what a call is refused for before anything is done, in order, by the lengths of the package and of the reply buffer that are lent
+abbrev pub callRefusal : Gateway → (content reply : ℕ) → ℕ
+callRefusal g content reply =
+    refusal ((shortReply, leb gatewayRoom reply) ∷ (badRecord, recordOk g) ∷ (badMemory, eqb content (g .length)) ∷ [])

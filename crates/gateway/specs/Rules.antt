@@ -5,12 +5,13 @@ use mathlib.Core.List.{List, [], _∷_}
 use lib.Dec.{eqb, leb, ltb}
 use lib.ListN.{length}
 use Rattle.basis.specs.Choice.{pick, refusal}
+use Rattle.basis.specs.Numbers.{noUse, badMemory, shortReply, badRecord}
 use Rattle.basis.specs.Bytes.{same, over}
 use Rattle.message.specs.Limits.{gatewayRoom}
 use Rattle.message.specs.Messages.{DeviceMessage, query, announce, fragment, downloadReply, execute, resultReply, GatewayMessage, queryReply, announceReply, fragmentRequest, downloadReport, executeReply, resultReport, Reading, found, refused, toDevice, toGateway}
 use Rattle.codec.specs.Codec.{Sent, bytesOf, readOf, said}
 use Rattle.gateway.specs.declared.Gateway.{Gateway}
-use Rattle.gateway.specs.Record.{ask, offer, serve, run, ended, totalOf, fragmentOf, offered, inPhase, endedWith, recordOk}
+use Rattle.gateway.specs.Record.{ask, offer, serve, run, ended, success, alreadyRunning, notAccepted, downloadFailed, notExecuted, upgradeFailed, totalOf, fragmentOf, offered, inPhase, endedWith, callRefusal}
 
 -- what a call leaves: the number, the length of the reply, the record, and the reply buffer
 pub record After : Type 0 where
@@ -21,7 +22,7 @@ pub record After : Type 0 where
 
 -- 19 answer in Ask: the target already runs, else Offer
 unfoldable pub asked : Gateway → (version : List ℕ) → Gateway
-asked g version = pick (same version (g .version)) (endedWith 1 g) (inPhase offer g)
+asked g version = pick (same version (g .version)) (endedWith alreadyRunning g) (inPhase offer g)
 
 -- Serve or Run: fragments are given
 unfoldable pub serving : ℕ → Bool
@@ -50,29 +51,29 @@ module _ (g : Gateway) (content reply : List ℕ) where
   -- ---- the six messages
 
   unfoldable pub onQueryReply : (version : List ℕ) → After
-  onQueryReply version = pick (eqb (g .phase) ask) (moved (asked g version)) (refuse 9)
+  onQueryReply version = pick (eqb (g .phase) ask) (moved (asked g version)) (refuse noUse)
 
   unfoldable pub onAnnounceReply : (result : ℕ) → After
   onAnnounceReply result =
-      pick (eqb (g .phase) offer) (moved (pick (eqb result 0x00) (inPhase serve g) (endedWith 2 g))) (refuse 9)
+      pick (eqb (g .phase) offer) (moved (pick (eqb result 0x00) (inPhase serve g) (endedWith notAccepted g))) (refuse noUse)
 
   unfoldable pub onFragmentRequest : (version : List ℕ) (index : ℕ) → After
   onFragmentRequest version index = replied g (fragmentReply g content version index)
 
   unfoldable pub onDownloadReport : (result : ℕ) → After
   onDownloadReport result =
-      pick (eqb (g .phase) serve) (replied (pick (eqb result 0x00) (inPhase run g) (endedWith 3 g)) (downloadReply 0x00))
+      pick (eqb (g .phase) serve) (replied (pick (eqb result 0x00) (inPhase run g) (endedWith downloadFailed g)) (downloadReply 0x00))
       (pick (eqb (g .phase) run) (replied g (downloadReply 0x00))
       (replied g (downloadReply 0x80)))
 
   unfoldable pub onExecuteReply : (result : ℕ) → After
   onExecuteReply result =
-      pick (eqb (g .phase) run) (moved (pick (eqb result 0x00) g (endedWith 4 g))) (refuse 9)
+      pick (eqb (g .phase) run) (moved (pick (eqb result 0x00) g (endedWith notExecuted g))) (refuse noUse)
 
   unfoldable pub onResultReport : (result : ℕ) (version : List ℕ) → After
   onResultReport result version =
       pick (eqb (g .phase) run)
-      (replied (endedWith (pick (eqb result 0x00 && same version (g .version)) 0 5) g) (resultReply 0x00))
+      (replied (endedWith (pick (eqb result 0x00 && same version (g .version)) success upgradeFailed) g) (resultReply 0x00))
       (replied g (resultReply 0x80))
 
   -- what a reading leads to
@@ -88,8 +89,7 @@ module _ (g : Gateway) (content reply : List ℕ) where
   -- a message is given: 15, 29, 14, 1 to 8, then the message's own rule
   unfoldable pub receiveOf : (supported pcp : Bool) (message : List ℕ) → After
   receiveOf supported pcp message =
-      let n : ℕ =
-      refusal ((15, leb gatewayRoom (length reply)) ∷ (29, recordOk g) ∷ (14, eqb (length content) (g .length)) ∷ []) in
+      let n : ℕ = callRefusal g (length content) (length reply) in
       pick (eqb n 0) (handle (readOf toGateway supported pcp message)) (refuse n)
 
 -- ---- asking for the next message: 19, 20, nothing, 23, nothing
@@ -99,10 +99,10 @@ wanted g =
     pick (eqb (g .phase) ask) (found query)
     (pick (eqb (g .phase) offer) (found (announce (offered g)))
     (pick (eqb (g .phase) run) (found execute)
-    (refused 9)))
+    (refused noUse)))
 
 -- 15, 29, 14, then what there is to say
 unfoldable pub nextMessageOf : Gateway → (content reply : List ℕ) → Sent
 nextMessageOf g content reply =
-    let n : ℕ = refusal ((15, leb gatewayRoom (length reply)) ∷ (29, recordOk g) ∷ (14, eqb (length content) (g .length)) ∷ []) in
+    let n : ℕ = callRefusal g (length content) (length reply) in
     said toDevice (pick (eqb n 0) (wanted g) (refused n)) reply

@@ -42,7 +42,7 @@ fn asked(gateway: Gateway, version: [u8; 16]) -> Gateway
 {
     let target = gateway.version;
     if message::same_version(version, target) {
-        ended_with(gateway, 1)
+        ended_with(gateway, Gateway::ALREADY_RUNNING)
     } else {
         in_phase(gateway, Gateway::OFFER)
     }
@@ -58,7 +58,7 @@ pub(crate) fn on_query_reply(gateway: Gateway, message: ToGateway, version: [u8;
     };
     let phase = gateway.phase;
     if phase != Gateway::ASK {
-        return refused(gateway, 9);
+        return refused(gateway, basis::number::NO_USE);
     }
     moved(asked(gateway, version))
 }
@@ -73,10 +73,10 @@ pub(crate) fn on_announce_reply(gateway: Gateway, message: ToGateway) -> Answer
     };
     let phase = gateway.phase;
     if phase != Gateway::OFFER {
-        return refused(gateway, 9);
+        return refused(gateway, basis::number::NO_USE);
     }
     let good = in_phase(gateway, Gateway::SERVE);
-    moved(by_result(result, good, ended_with(gateway, 2)))
+    moved(by_result(result, good, ended_with(gateway, Gateway::NOT_ACCEPTED)))
 }
 
 // Serve or Run: fragments are given.
@@ -151,7 +151,7 @@ pub(crate) fn on_download_report(gateway: Gateway, message: ToGateway, reply: &m
     let phase = gateway.phase;
     if phase == Gateway::SERVE {
         let good = in_phase(gateway, Gateway::RUN);
-        let next = by_result(result, good, ended_with(gateway, 3));
+        let next = by_result(result, good, ended_with(gateway, Gateway::DOWNLOAD_FAILED));
         return replied_bare(next, ToDevice::DownloadReply(0x00), reply);
     }
     if phase == Gateway::RUN {
@@ -170,18 +170,18 @@ pub(crate) fn on_execute_reply(gateway: Gateway, message: ToGateway) -> Answer
     };
     let phase = gateway.phase;
     if phase != Gateway::RUN {
-        return refused(gateway, 9);
+        return refused(gateway, basis::number::NO_USE);
     }
-    moved(by_result(result, gateway, ended_with(gateway, 4)))
+    moved(by_result(result, gateway, ended_with(gateway, Gateway::NOT_EXECUTED)))
 }
 
 // The ending of an install: 00 with the target version is success, 0, anything else 5.
 fn install_ending(gateway: Gateway, result: u8, version: [u8; 16]) -> u8
-    ensures { λ r. ⌜ r ≡ pick (eqb result 0x00 && same version (gateway .version)) 0 5 ⌝ }
+    ensures { λ r. ⌜ r ≡ pick (eqb result 0x00 && same version (gateway .version)) success upgradeFailed ⌝ }
 {
     let target = gateway.version;
     let success = (result == 0x00) & message::same_version(version, target);
-    if success { 0 } else { 5 }
+    if success { Gateway::SUCCESS } else { Gateway::UPGRADE_FAILED }
 }
 
 // 24 in Run: the end; the reply is 00. In other phases 80.

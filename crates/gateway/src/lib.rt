@@ -34,6 +34,19 @@ impl Gateway {
 
     pub const ENDED: u8 = 4;
 
+    // The endings.
+    pub const SUCCESS: u8 = 0;
+
+    pub const ALREADY_RUNNING: u8 = 1;
+
+    pub const NOT_ACCEPTED: u8 = 2;
+
+    pub const DOWNLOAD_FAILED: u8 = 3;
+
+    pub const NOT_EXECUTED: u8 = 4;
+
+    pub const UPGRADE_FAILED: u8 = 5;
+
     // The limits of a fragment's size and of their number, and the least reply buffer.
     pub const SIZE_MIN: u16 = message::Fields::SIZE_MIN;
 

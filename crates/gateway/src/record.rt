@@ -4,26 +4,24 @@ use crate::Started;
 use crate::fragments::length_ok;
 use crate::fragments::size_ok;
 ghost use mathlib.Core.Path.{_≡_};
-ghost use mathlib.Core.List.{[], _∷_};
-ghost use lib.ListN.{length};
-ghost use Rattle.basis.specs.Choice.{pick, refusal};
+ghost use Rattle.basis.specs.Choice.{pick};
 ghost use Rattle.checksum.specs.Check.{checkOf};
 ghost use Rattle.message.specs.Limits.{sizeOk};
 ghost use Rattle.message.specs.Version.{goodVersion};
-ghost use Rattle.gateway.specs.Record.{lengthOk, started, inPhase, endedWith, startOf, recordOk};
+ghost use Rattle.gateway.specs.Record.{started, inPhase, endedWith, startRefusal, startOf, recordOk};
 
 // 17, 18, 19 in their order, or 0.
 fn start_refusal(version: [u8; 16], size: u16, length: usize) -> u8
-    ensures { λ r. ⌜ r ≡ refusal ((17, goodVersion version) ∷ (18, sizeOk size) ∷ (19, lengthOk length size) ∷ []) ⌝ }
+    ensures { λ r. ⌜ r ≡ startRefusal version size length ⌝ }
 {
     if !message::good_version(version) {
-        return 17;
+        return basis::number::BAD_VERSION_TEXT;
     }
     if !size_ok(size) {
-        return 18;
+        return basis::number::BAD_SIZE;
     }
     if !length_ok(length, size) {
-        return 19;
+        return basis::number::BAD_PACKAGE;
     }
     0
 }
@@ -98,6 +96,6 @@ pub(crate) fn record_ok(gateway: Gateway) -> bool
     let version = gateway.version;
     let size = gateway.size;
     let length = gateway.length;
-    ((phase <= Gateway::ENDED) & (ending <= 5))
+    ((phase <= Gateway::ENDED) & (ending <= Gateway::UPGRADE_FAILED))
         & (message::good_version(version) & (size_ok(size) & length_ok(length, size)))
 }

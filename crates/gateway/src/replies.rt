@@ -24,7 +24,7 @@ pub(crate) fn number_of(message: ToGateway) -> u8
     if let ToGateway::Refused(number) = message {
         number
     } else {
-        9
+        basis::number::NO_USE
     }
 }
 

@@ -31,17 +31,17 @@ ghost use Rattle.gateway.specs.Inner.{OfCode, Guarded};
 
 // 15, 29, 14 in their order, or 0, by the lengths of the package and of the reply buffer.
 fn call_refusal(gateway: Gateway, content: usize, reply: usize) -> u8
-    ensures { λ r. ⌜ r ≡ refusal ((15, leb gatewayRoom reply) ∷ (29, recordOk gateway) ∷ (14, eqb content (gateway .length)) ∷ []) ⌝ }
+    ensures { λ r. ⌜ r ≡ callRefusal gateway content reply ⌝ }
 {
     let length = gateway.length;
     if reply < Gateway::REPLY_ROOM {
-        return 15;
+        return basis::number::SHORT_REPLY;
     }
     if !record_ok(gateway) {
-        return 29;
+        return basis::number::BAD_RECORD;
     }
     if content != length {
-        return 14;
+        return basis::number::BAD_MEMORY;
     }
     0
 }
@@ -113,7 +113,7 @@ fn wanted(gateway: Gateway) -> ToDevice
     if phase == Gateway::RUN {
         return ToDevice::Execute;
     }
-    ToDevice::Refused(9)
+    ToDevice::Refused(basis::number::NO_USE)
 }
 
 // The next message is asked for. The record stays as it is.

@@ -114,7 +114,7 @@ module _ (g : Gateway) (content reply : List ℕ) where
       by-cases Fits (λ _. spoken-fits (resultReply 0x00) (omega arith)) (λ _. spoken-fits (resultReply 0x80) (omega arith))
 
   -- behind the guard the size is in range
-  sized : refusal ((15, leb gatewayRoom (length reply)) ∷ (29, recordOk g) ∷ (14, eqb (length content) (g .length)) ∷ []) ≡ 0 → g .size ≤ sizeMax
+  sized : callRefusal g (length content) (length reply) ≡ 0 → g .size ≤ sizeMax
   sized e = told g (passed 28 _ _ (passed 14 _ _ e .1) .0) .high
 
   pub gateway-reply-fits : (supported pcp : Bool) (message : List ℕ) → gateway.receiveOf g content reply supported pcp message .length ≤ gatewayRoom

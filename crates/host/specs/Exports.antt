@@ -6,6 +6,7 @@ use mathlib.Core.List.{List}
 use lib.Dec.{eqb, leb}
 use lib.ListN.{length, replicate}
 use Rattle.basis.specs.Choice.{pick}
+use Rattle.basis.specs.Numbers.{shortRecord}
 use Rattle.basis.specs.Bytes.{part}
 use Rattle.codec.specs.Codec.{Sent}
 use Rattle.device_record.specs.declared.Device.{Device}
@@ -23,10 +24,7 @@ use Rattle.layout.specs.Layout.{deviceAt, deviceBytes, deviceLength, gatewayAt,
 abbrev pub fact : ℕ → Bool
 fact b = not (eqb b 0)
 
--- the boundary's own number, first of all: a record buffer shorter than its layout
-abbrev pub shortRecord : ℕ
-shortRecord = 64
-
+-- 64 comes first of all: a record buffer shorter than its layout
 -- a number and the length of a reply, as one number
 abbrev pub packed : (number length : ℕ) → ℕ
 packed number length = number + 256 * length

@@ -5,7 +5,7 @@ ghost use Prim.Native.Nat.{_<_};
 ghost use Rattle.host.specs.Exports.{packed, textOf};
 
 // A record buffer shorter than its layout.
-pub(crate) const SHORT_RECORD: u8 = 64;
+pub(crate) const SHORT_RECORD: u8 = basis::number::SHORT_RECORD;
 
 // A number and the length of a reply, as one number.
 pub(crate) fn packed(number: u8, length: usize) -> u32

@@ -6,6 +6,7 @@ use mathlib.Core.List.{List, [], _∷_}
 use lib.Dec.{eqb, leb}
 use lib.ListN.{length, getD}
 use Rattle.basis.specs.Choice.{refusal}
+use Rattle.basis.specs.Numbers.{unsupported, otherProtocol, badStart, badVersion, badCode, badCheck, badLength}
 use Rattle.basis.specs.Bytes.{wordAt}
 use Rattle.checksum.specs.Check.{messageCheck}
 
@@ -33,5 +34,5 @@ lengthHolds m = eqb (wordAt m 6) (length m - 8)
 unfoldable pub recognition : (supported pcp : Bool) → List ℕ → ℕ
 recognition supported pcp m =
     refusal
-    ((1, supported) ∷ (2, pcp) ∷ (3, startHolds m) ∷ (4, versionByteHolds m) ∷ (5, codeHolds m) ∷ (6, checkHolds m) ∷ (7, lengthHolds m)
+    ((unsupported, supported) ∷ (otherProtocol, pcp) ∷ (badStart, startHolds m) ∷ (badVersion, versionByteHolds m) ∷ (badCode, codeHolds m) ∷ (badCheck, checkHolds m) ∷ (badLength, lengthHolds m)
     ∷ [])

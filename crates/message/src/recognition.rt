@@ -48,25 +48,25 @@ pub fn recognise(supported: bool, pcp: bool, message: &[u8]) -> u8
     ensures { λ r. ⌜ r ≡ recognition supported pcp (now (message .entry)) ⌝ }
 {
     if !supported {
-        return 1;
+        return basis::number::UNSUPPORTED;
     }
     if !pcp {
-        return 2;
+        return basis::number::OTHER_PROTOCOL;
     }
     if !start_holds(message) {
-        return 3;
+        return basis::number::BAD_START;
     }
     if !version_byte_holds(message) {
-        return 4;
+        return basis::number::BAD_VERSION;
     }
     if !code_holds(message) {
-        return 5;
+        return basis::number::BAD_CODE;
     }
     if !check_holds(message) {
-        return 6;
+        return basis::number::BAD_CHECK;
     }
     if !length_holds(message) {
-        return 7;
+        return basis::number::BAD_LENGTH;
     }
     0
 }

@@ -5,6 +5,7 @@ use mathlib.Core.List.{List, [], _∷_, _++_}
 use lib.Dec.{ltb}
 use lib.ListN.{length, take, replicate}
 use Rattle.basis.specs.Choice.{pick}
+use Rattle.basis.specs.Numbers.{cutShort}
 use Rattle.basis.specs.Bytes.{over}
 use Rattle.device_record.specs.declared.Device.{Device}
 use Rattle.device_record.specs.Record.{newOf}
@@ -78,7 +79,7 @@ textFrom capture (suc most) number at s =
 -- longer input prints only "21"
 unfoldable pub replayText : (capture : List ℕ) → List ℕ
 replayText capture =
-    pick (ltb captureMost (length capture)) (numberText 21 newline) (textFrom capture (suc (length capture)) 0 0 start)
+    pick (ltb captureMost (length capture)) (numberText cutShort newline) (textFrom capture (suc (length capture)) 0 0 start)
 
 -- ---- the text in a buffer
 

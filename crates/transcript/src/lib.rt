@@ -177,7 +177,7 @@ pub fn replay(capture: &[u8], out: &mut [u8]) -> usize
         return 0;
     }
     if CAPTURE_MOST < capture.len() {
-        return text::put_number(out, 0, capture::CUT_SHORT as usize, b'\n');
+        return text::put_number(out, 0, basis::number::CUT_SHORT as usize, b'\n');
     }
     let made = Device::new(VERSION);
     let device = made.device;

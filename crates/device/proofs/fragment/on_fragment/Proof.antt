@@ -1,7 +1,7 @@
 -- `device::fragment::on_fragment` meets its contract. Assumes nothing.
 use borrow.Author.Needs.{needs}
 use mathlib.Core.Path.{sym, _∙_}
-use Rattle.device_decisions.proofs.Tested.{within}
+use Rattle.device_decisions.proofs.Tested.{fragment-passed}
 use Rattle.device.proofs.Fragments.{not-loading, stopped, unknown, refused-first, stores}
 use Rattle.device.proofs.Readings.{leaves, leads-fragment}
 use Rattle.device.proofs.fragment.on_fragment.Statement.{statement}
@@ -57,7 +57,8 @@ returns-5 c = λ p v k. c .refused3 .ensures _ _ p ∙ sym (leads-fragment _ _ _
 store-requires : tie.Need-store-requires
 store-requires c κs =
     let s = c .before .before .before .before .before .before .before .before .before .before .before .before .before .before .before .before in
-    (s .pre .0, (c .before .before .before .before .before .before .before .before .if1 .left, (s .pre .1 .0, within _ _ _ (s .args .map .now) _ (c .before .before .before .fragment-number .ensures) (c .before .before .if4 .left))))
+    let (below, long, _) = fragment-passed _ _ _ (s .args .map .now) (sym (c .before .before .before .fragment-number .ensures) ∙ c .before .before .if4 .left) in
+    (s .pre .0, (c .before .before .before .before .before .before .before .before .if1 .left, (s .pre .1 .0, (below, long))))
 
 same-length-2 : tie.Need-same-length-2
 same-length-2 c = search needs
