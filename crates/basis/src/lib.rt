@@ -1,5 +1,5 @@
-// What the crates above share: the lesser of two numbers, bytes and WORDs at a place of a slice, and
-// the one way in which a buffer is written.
+// What the crates above share: choice by a test, refusals in order, least and product, bytes and
+// WORDs at a place of a slice, membership, and the one way in which a buffer is written.
 ghost use mathlib.Core.Path.{_≡_};
 ghost use Prim.Native.Nat.{_+_, _*_, _≤_, min};
 ghost use lib.ListN.{length, getD};

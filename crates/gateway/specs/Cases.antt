@@ -6,7 +6,7 @@ use mathlib.Core.Bool.{Bool, true, false}
 use mathlib.Core.List.{List, [], _∷_, _++_}
 use lib.ListN.{take, drop, replicate}
 use Rattle.basis.specs.Cases.{Agree}
-use Rattle.message.specs.Cases.{text}
+use Rattle.message.specs.Cases.{text, noText}
 use Rattle.message.specs.Messages.{GatewayMessage, queryReply, announceReply, fragmentRequest, downloadReport, executeReply, resultReport, found}
 use Rattle.codec.specs.Codec.{Sent}
 use Rattle.gateway.specs.declared.Gateway.{Gateway}
@@ -23,7 +23,7 @@ gateway phase ending version size length code =
 abbrev pub content : List ℕ
 content = replicate 32 0x41 ++ (0x42 ∷ [])
 
--- V2 is that package, with a check code of its maker's
+-- V2 is that package, with a check code that no start gives it, so that a row shows where the code goes
 abbrev pub offers : (phase ending : ℕ) → Gateway
 offers phase ending = gateway phase ending (text 2) 32 33 0x1234
 
@@ -44,7 +44,7 @@ starts =
     (text 2, 32, content, false, record { number = 0; gateway = gateway 0 0 (text 2) 32 33 0x0000 }) ∷
     (text 2, 32, content, true, record { number = 0; gateway = gateway 0 0 (text 2) 32 33 0x7281 }) ∷
     -- 17, 18, 19 in their order
-    ([], 31, [], true, record { number = 17; gateway = gateway 0 0 (zeros 16) 0 0 0 }) ∷
+    (noText, 31, [], true, record { number = 17; gateway = gateway 0 0 (zeros 16) 0 0 0 }) ∷
     (text 2, 31, [], true, record { number = 18; gateway = gateway 0 0 (zeros 16) 0 0 0 }) ∷
     (text 2, 32, [], true, record { number = 19; gateway = gateway 0 0 (zeros 16) 0 0 0 }) ∷
     []
@@ -56,7 +56,7 @@ kept =
     (gateway 4 5 (text 2) 500 32767500 65535, true) ∷
     (gateway 5 0 (text 2) 32 33 0, false) ∷
     (gateway 4 6 (text 2) 32 33 0, false) ∷
-    (gateway 0 0 [] 32 33 0, false) ∷
+    (gateway 0 0 noText 32 33 0, false) ∷
     (gateway 0 0 (text 2) 31 33 0, false) ∷
     (gateway 0 0 (text 2) 501 33 0, false) ∷
     (gateway 0 0 (text 2) 32 0 0, false) ∷

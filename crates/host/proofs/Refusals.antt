@@ -1,7 +1,7 @@
 -- Demand 1 at the boundary: any number but 0 leaves every buffer as it was. Assumes nothing.
 use Prim.Native.Nat.{ℕ, _+_, _*_, _/_, _%_, _≤_, _<_}
 use native.Mathlib.Omega.{arith}
-use mathlib.Core.Path.{_≡_, refl, sym, ap, subst}
+use mathlib.Core.Path.{_≡_, refl, sym, _∙_, ap, subst}
 use mathlib.Core.Bool.{Bool}
 use mathlib.Core.List.{List, [], _∷_}
 use lib.Dec.{eqb}
@@ -13,6 +13,7 @@ use Rattle.codec.specs.Codec.{Sent, readOf, said}
 use Rattle.codec.specs.Demand2.{RoundTrips}
 use Rattle.codec.proofs.RoundTrip.{device-round-trip, gateway-round-trip}
 use Rattle.device_record.specs.declared.Device.{Device}
+use Rattle.device.specs.declared.Finished.{Finished}
 use Rattle.device.specs.Rules as device
 use Rattle.gateway.specs.declared.Gateway.{Gateway}
 use Rattle.gateway.specs.Rules as gateway
@@ -201,6 +202,25 @@ gateway-untouched bytes content reply a (declined n small e) h =
     × (gatewayKept bytes (a .number) (a .gateway) ≡ bytes) × (a .reply ≡ reply)) (sym e)
     (λ h. (omega arith, stays n gatewayLength _ bytes (λ z. h (omega arith)), refl)) h
 
+-- the record, where a call is refused
+
+device-returned : (d : Device) (image map reply : List ℕ) (a : device.After) → DeviceOutcome d image map reply a → (a .number ≡ 0 → ⊥)
+    → a ≡ device.refuse d image map reply (a .number)
+device-returned d image map reply a (done e) h = absurd (h e)
+device-returned d image map reply a (declined n small e) h =
+    e ∙ ap (device.refuse d image map reply) (sym (ap (λ (x : device.After). x .number) e))
+
+gateway-returned : (g : Gateway) (content reply : List ℕ) (a : gateway.After) → GatewayOutcome g content reply a → (a .number ≡ 0 → ⊥)
+    → a ≡ gateway.refuse g content reply (a .number)
+gateway-returned g content reply a (done e) h = absurd (h e)
+gateway-returned g content reply a (declined n small e) h =
+    e ∙ ap (gateway.refuse g content reply) (sym (ap (λ (x : gateway.After). x .number) e))
+
+finished-returned : (d : Device) (code : ℕ) → (device.installFinishedOf d code .number ≡ 0 → ⊥) → device.installFinishedOf d code .device ≡ d
+unfolding device.installFinishedOf
+finished-returned d code =
+    by-cases (λ (f : Finished). (f .number ≡ 0 → ⊥) → f .device ≡ d) (λ _ h. absurd (h refl)) (λ _ _. refl)
+
 pub demand-1 : Demand1
 unfolding deviceNewOf deviceReceiveOf deviceNextMessageOf deviceInstallFinishedOf gatewayStartOf gatewayReceiveOf gatewayNextMessageOf Unkept Unsaid DeviceUntouched GatewayUntouched
 demand-1 =
@@ -220,4 +240,9 @@ demand-1 =
           (λ _ h. (omega arith, refl, refl));
       gateway-next-message = λ bytes content reply.
           by-cases (Unsaid toDevice reply) (λ _. gateway-ask-refused (gatewayAt bytes) content reply) (λ _ h. (omega arith, refl));
+      device-record = λ d image map reply supported pcp condition message.
+          device-returned d image map reply _ (device-outcome d image map reply supported pcp condition message);
+      device-finished-record = finished-returned;
+      gateway-record = λ g content reply supported pcp message.
+          gateway-returned g content reply _ (gateway-outcome g content reply supported pcp message);
     }

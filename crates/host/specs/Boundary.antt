@@ -2,11 +2,15 @@
 -- nothing.
 use Prim.Native.Nat.{ℕ, _/_, _%_, _≤_}
 use mathlib.Core.Path.{_≡_}
+use mathlib.Core.Bool.{Bool}
 use mathlib.Core.List.{List}
 use lib.ListN.{length}
 use Rattle.basis.specs.Bytes.{Bytes}
+use Rattle.device_record.specs.declared.Device.{Device}
 use Rattle.device_record.specs.Record.{newOf}
+use Rattle.device.specs.declared.Finished.{Finished}
 use Rattle.device.specs.Rules as device
+use Rattle.gateway.specs.declared.Gateway.{Gateway}
 use Rattle.gateway.specs.Record.{startOf}
 use Rattle.gateway.specs.Rules as gateway
 use Rattle.layout.specs.Layout.{deviceAt, deviceLength, gatewayAt, gatewayLength}
@@ -42,6 +46,15 @@ pub record Demand1 : Type 0 where
       Refused (g .answer) → (lengthIn (g .answer) ≡ 0) × (g .bytes ≡ bytes) × (g .reply ≡ reply)
   pub gateway-next-message : (bytes content reply : List ℕ) → let a : Asked = gatewayNextMessageOf bytes content reply in
       Refused (a .answer) → (lengthIn (a .answer) ≡ 0) × (a .reply ≡ reply)
+  -- and of the record itself: a refused call returns the one that it was given
+  pub device-record : (d : Device) (image map reply : List ℕ) (supported pcp : Bool) (condition : ℕ) (message : List ℕ)
+      → let a : device.After = device.receiveOf d image map reply supported pcp condition message in
+      (a .number ≡ 0 → ⊥) → a ≡ device.refuse d image map reply (a .number)
+  pub device-finished-record : (d : Device) (code : ℕ) → let f : Finished = device.installFinishedOf d code in
+      (f .number ≡ 0 → ⊥) → f .device ≡ d
+  pub gateway-record : (g : Gateway) (content reply : List ℕ) (supported pcp : Bool) (message : List ℕ)
+      → let a : gateway.After = gateway.receiveOf g content reply supported pcp message in
+      (a .number ≡ 0 → ⊥) → a ≡ gateway.refuse g content reply (a .number)
 
 -- ---- the record that a call left is the one that the next call finds, whatever stood in the buffer: after a making or a start that was
 -- answered 0, and after any other call, refused or not

@@ -1,5 +1,5 @@
 -- The calls of both ends through bytes: each is the end's own definition, with the record read from and kept in a buffer that the host
--- lends (`bytes`). The device is 01's head, `content` its package. Assumes nothing.
+-- lends (`bytes`). The device is 01's head; `content` is the gateway's package. Assumes nothing.
 use Prim.Native.Nat.{ℕ, _+_, _*_}
 use mathlib.Core.Bool.{Bool, not}
 use mathlib.Core.List.{List}

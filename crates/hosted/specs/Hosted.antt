@@ -90,7 +90,8 @@ HostedInstallLength = (b : HostedBefore) → HostedReady b → InstallLengthOf (
 
 -- ---- the clean run
 
--- The device starts Idle with another version, and all buffers are long enough. What a call is lent may depend on all that its host sees.
+-- The device starts Idle with another version, and all buffers are long enough. What a call is lent may depend
+-- on both records, image and map, and what is on the air.
 pub record HostedCleanStart (b : HostedBefore) (deviceReply gatewayReply : World → List ℕ) : Type 0 where
   pub ready : HostedReady b
   pub device-idle : deviceAt (deviceHostThen b .bytes) .phase ≡ idle
