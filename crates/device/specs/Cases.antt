@@ -121,18 +121,43 @@ changes =
     ((holds 2 3 7, places 1 2 3, 0xFF ∷ []), announce (fields 1 40 2 5), (holds 2 3 7, places 1 2 3, 0xFF ∷ [])) ∷
     []
 
--- asked: record, the first map byte; number, and the message's code and data
+-- a reply buffer, and a call's whole answer: what no rule names stays
+abbrev fives : ℕ → List ℕ
+fives n = replicate n 0x55
+
+abbrev after : (number length : ℕ) → Device → (image map reply : List ℕ) → After
+after number length d image map reply = record { number = number; length = length; device = d; image = image; map = map; reply = reply }
+
+-- fragment 1 of 3 is stored: phase, message; refused, handled, replied, begun afresh, stored
+abbrev pub answers : List (ℕ × DeviceMessage × After)
+answers =
+    (0, resultReply 0x00, after 9 0 (holds 0 1 0) (places 0 0x42 0) (0x02 ∷ []) (fives 26)) ∷
+    (6, resultReply 0x00, after 0 0 (holds 0 1 0) (places 0 0x42 0) (0x02 ∷ []) (fives 26)) ∷ (
+      1,
+      query,
+      after 0 25 (holds 1 1 0) (places 0 0x42 0) (0x02 ∷ [])
+          (0xFF ∷ 0xFE ∷ 0x01 ∷ 0x13 ∷ 0x1E ∷ 0xA6 ∷ 0x00 ∷ 0x11 ∷ 0x00 ∷ (text 1 ++ fives 1)),
+    ) ∷ (
+      0,
+      announce (fields 3 32 1 7),
+      after 0 9 (device 1 (text 1) (text 3) 32 1 7 0 0 0x04) (places 0 0x42 0) (0x00 ∷ [])
+          (0xFF ∷ 0xFE ∷ 0x01 ∷ 0x14 ∷ 0xD7 ∷ 0x68 ∷ 0x00 ∷ 0x01 ∷ 0x00 ∷ fives 17),
+    ) ∷
+    (1, fragment 0x00 0 (replicate 32 0x41), after 0 0 (holds 1 2 0) (places 0x41 0x42 0) (0x03 ∷ []) (fives 26)) ∷
+    []
+
+-- asked: record, the first map byte; number, length, and the message's code and data
 abbrev pub asked : List (Device × ℕ × List ℕ)
 asked =
-    (holds 0 0 0, 0x00, 9 ∷ []) ∷
-    (holds 1 1 0, 0x02, 0 ∷ 21 ∷ (text 2 ++ (0x00 ∷ 0x00 ∷ []))) ∷
-    (holds 1 2 0, 0x03, 0 ∷ 21 ∷ (text 2 ++ (0x00 ∷ 0x02 ∷ []))) ∷
-    (holds 1 2 0, 0x07, 29 ∷ []) ∷  -- the map shows none missing
-    (holds 2 3 7, 0x07, 0 ∷ 22 ∷ 0x00 ∷ []) ∷
-    (holds 3 3 7, 0x07, 9 ∷ []) ∷
-    (holds 4 3 7, 0x07, 0 ∷ 22 ∷ 0x07 ∷ []) ∷
-    (holds 5 3 7, 0x07, 9 ∷ []) ∷
-    (holds 6 3 7, 0x07, 0 ∷ 24 ∷ 0x04 ∷ text 1) ∷
+    (holds 0 0 0, 0x00, 9 ∷ 0 ∷ []) ∷
+    (holds 1 1 0, 0x02, 0 ∷ 26 ∷ 21 ∷ (text 2 ++ (0x00 ∷ 0x00 ∷ []))) ∷
+    (holds 1 2 0, 0x03, 0 ∷ 26 ∷ 21 ∷ (text 2 ++ (0x00 ∷ 0x02 ∷ []))) ∷
+    (holds 1 2 0, 0x07, 29 ∷ 0 ∷ []) ∷  -- the map shows none missing
+    (holds 2 3 7, 0x07, 0 ∷ 9 ∷ 22 ∷ 0x00 ∷ []) ∷
+    (holds 3 3 7, 0x07, 9 ∷ 0 ∷ []) ∷
+    (holds 4 3 7, 0x07, 0 ∷ 9 ∷ 22 ∷ 0x07 ∷ []) ∷
+    (holds 5 3 7, 0x07, 9 ∷ 0 ∷ []) ∷
+    (holds 6 3 7, 0x07, 0 ∷ 25 ∷ 24 ∷ 0x04 ∷ text 1) ∷
     []
 
 -- the installer's end: record, code; number, record
@@ -179,7 +204,7 @@ abbrev pub stateOf : After → State
 stateOf a = (a .device, a .image, a .map)
 
 abbrev pub answerOf : Sent → List ℕ
-answerOf s = s .number ∷ spoken (s .length) (s .buffer)
+answerOf s = s .number ∷ s .length ∷ spoken (s .length) (s .buffer)
 
 pub record DeviceCases : Type 0 where
   pub step :
@@ -192,6 +217,11 @@ pub record DeviceCases : Type 0 where
       (λ (r : State × DeviceMessage × State). stateOf (handle (r .0 .0) (r .0 .1) (r .0 .2) (zeros 26) 0 (found (r .1))))
       (λ r. r .2)
       changes
+  pub answer :
+      Agree
+      (λ (r : ℕ × DeviceMessage × After). handle (holds (r .0) 1 0) (places 0 0x42 0) (0x02 ∷ []) (fives 26) 0 (found (r .1)))
+      (λ r. r .2)
+      answers
   pub ask : Agree (λ (r : Device × ℕ × List ℕ). answerOf (nextMessageOf (r .0) (zeros 96) (r .1 ∷ []) (zeros 26))) (λ r. r .2) asked
   pub finish : Agree (λ (r : Device × ℕ × Finished). installFinishedOf (r .0) (r .1)) (λ r. r .2) finished
   pub give-order :
