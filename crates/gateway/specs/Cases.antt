@@ -128,16 +128,17 @@ fives n = replicate n 0x55
 abbrev after : (number length : ℕ) → Gateway → List ℕ → After
 after number length g reply = record { number = number; length = length; gateway = g; reply = reply }
 
+-- 22 answered 80
+abbrev declined : List ℕ
+declined = 0xFF ∷ 0xFE ∷ 0x01 ∷ 0x16 ∷ 0x14 ∷ 0x86 ∷ 0x00 ∷ 0x01 ∷ 0x80 ∷ []
+
 -- phase, message; refused, moved on, ended, replied
 abbrev pub answers : List (ℕ × GatewayMessage × After)
 answers =
     (1, queryReply 0x00 (text 1), after 9 0 (gateway 1 0 (text 2) 32 33 0x1234) (fives 511)) ∷
     (0, queryReply 0x00 (text 1), after 0 0 (gateway 1 0 (text 2) 32 33 0x1234) (fives 511)) ∷
-    (3, executeReply 0x04, after 0 0 (gateway 4 4 (text 2) 32 33 0x1234) (fives 511)) ∷ (
-      0,
-      downloadReport 0x00,
-      after 0 9 (gateway 0 0 (text 2) 32 33 0x1234) (0xFF ∷ 0xFE ∷ 0x01 ∷ 0x16 ∷ 0x14 ∷ 0x86 ∷ 0x00 ∷ 0x01 ∷ 0x80 ∷ fives 502),
-    ) ∷
+    (3, executeReply 0x04, after 0 0 (gateway 4 4 (text 2) 32 33 0x1234) (fives 511)) ∷
+    (0, downloadReport 0x00, after 0 9 (gateway 0 0 (text 2) 32 33 0x1234) (declined ++ fives 502)) ∷
     []
 
 -- asked: phase; number, length, and the message's code and data
