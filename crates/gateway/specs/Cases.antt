@@ -121,21 +121,34 @@ steps =
     (4, resultReport 0x01 (text 2), 0 ∷ 4 ∷ 0 ∷ 24 ∷ 0x80 ∷ []) ∷
     []
 
--- phase, message; the record after it: all but phase and ending number stay
-abbrev pub records : List (ℕ × GatewayMessage × Gateway)
-records =
-    (0, queryReply 0x00 (text 1), gateway 1 0 (text 2) 32 33 0x1234) ∷
-    (3, executeReply 0x04, gateway 4 4 (text 2) 32 33 0x1234) ∷
+-- a reply buffer, and a call's whole answer: what no rule names stays
+abbrev fives : ℕ → List ℕ
+fives n = replicate n 0x55
+
+abbrev after : (number length : ℕ) → Gateway → List ℕ → After
+after number length g reply = record { number = number; length = length; gateway = g; reply = reply }
+
+-- 22 answered 80
+abbrev declined : List ℕ
+declined = 0xFF ∷ 0xFE ∷ 0x01 ∷ 0x16 ∷ 0x14 ∷ 0x86 ∷ 0x00 ∷ 0x01 ∷ 0x80 ∷ []
+
+-- phase, message; refused, moved on, ended, replied
+abbrev pub answers : List (ℕ × GatewayMessage × After)
+answers =
+    (1, queryReply 0x00 (text 1), after 9 0 (gateway 1 0 (text 2) 32 33 0x1234) (fives 511)) ∷
+    (0, queryReply 0x00 (text 1), after 0 0 (gateway 1 0 (text 2) 32 33 0x1234) (fives 511)) ∷
+    (3, executeReply 0x04, after 0 0 (gateway 4 4 (text 2) 32 33 0x1234) (fives 511)) ∷
+    (0, downloadReport 0x00, after 0 9 (gateway 0 0 (text 2) 32 33 0x1234) (declined ++ fives 502)) ∷
     []
 
--- asked: phase; number, and the message's code and data
+-- asked: phase; number, length, and the message's code and data
 abbrev pub asked : List (ℕ × List ℕ)
 asked =
-    (0, 0 ∷ 19 ∷ []) ∷
-    (1, 0 ∷ 20 ∷ (text 2 ++ (0x00 ∷ 0x20 ∷ 0x00 ∷ 0x02 ∷ 0x12 ∷ 0x34 ∷ []))) ∷
-    (2, 9 ∷ []) ∷
-    (3, 0 ∷ 23 ∷ []) ∷
-    (4, 9 ∷ []) ∷
+    (0, 0 ∷ 8 ∷ 19 ∷ []) ∷
+    (1, 0 ∷ 30 ∷ 20 ∷ (text 2 ++ (0x00 ∷ 0x20 ∷ 0x00 ∷ 0x02 ∷ 0x12 ∷ 0x34 ∷ []))) ∷
+    (2, 9 ∷ 0 ∷ []) ∷
+    (3, 0 ∷ 8 ∷ 23 ∷ []) ∷
+    (4, 9 ∷ 0 ∷ []) ∷
     []
 
 -- refusals of a message in their order, each bad in all that follows: length of the reply buffer, record, package, whether upgrade is
@@ -164,7 +177,7 @@ asking =
     []
 
 abbrev pub answerOf : Sent → List ℕ
-answerOf s = s .number ∷ spoken (s .length) (s .buffer)
+answerOf s = s .number ∷ s .length ∷ spoken (s .length) (s .buffer)
 
 pub record GatewayCases : Type 0 where
   pub total : Agree (λ (r : ℕ × ℕ × ℕ). totalOf (r .0) (r .1)) (λ r. r .2) totals
@@ -172,7 +185,7 @@ pub record GatewayCases : Type 0 where
   pub start : Agree (λ (r : List ℕ × ℕ × List ℕ × Bool × Started). startOf (r .0) (r .1) (r .2) (r .3)) (λ r. r .4) starts
   pub record-is : Agree (λ (r : Gateway × Bool). recordOk (r .0)) (λ r. r .1) kept
   pub step : Agree (λ (r : ℕ × GatewayMessage × List ℕ). outcome (handle (offers (r .0) 0) content (zeros 511) (found (r .1)))) (λ r. r .2) steps
-  pub change : Agree (λ (r : ℕ × GatewayMessage × Gateway). (handle (offers (r .0) 0) content (zeros 511) (found (r .1))) .gateway) (λ r. r .2) records
+  pub answer : Agree (λ (r : ℕ × GatewayMessage × After). handle (offers (r .0) 0) content (fives 511) (found (r .1))) (λ r. r .2) answers
   pub ask : Agree (λ (r : ℕ × List ℕ). answerOf (nextMessageOf (offers (r .0) 0) content (zeros 511))) (λ r. r .1) asked
   pub give-order :
       Agree (λ (r : ℕ × Gateway × List ℕ × Bool × List ℕ × ℕ). (receiveOf (r .1) (r .2) (zeros (r .0)) (r .3) true (r .4)) .number) (λ r. r .5) given

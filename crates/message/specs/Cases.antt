@@ -108,6 +108,7 @@ sentToGateway =
 abbrev pub recognised : List (Bool × Bool × List ℕ × ℕ)
 recognised =
     (true, true, 0xFF ∷ 0xFE ∷ 0x01 ∷ 0x13 ∷ 0x4C ∷ 0x9A ∷ 0x00 ∷ 0x00 ∷ [], 0) ∷  -- 19 query, as published
+    (true, true, 0xFF ∷ 0xFE ∷ 0x01 ∷ 0x14 ∷ 0xD7 ∷ 0x68 ∷ 0x00 ∷ 0x01 ∷ 0x00 ∷ [], 0) ∷  -- 20 answer, as published
     (false, false, [], 1) ∷
     (true, false, [], 2) ∷
     (true, true, 0x00 ∷ 0xFE ∷ 0x02 ∷ 0x13 ∷ [], 3) ∷
