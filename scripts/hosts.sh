@@ -1,6 +1,6 @@
 # Shared by the other scripts, which source it at the repository's root.
 
-archive=target/staticlib/libhost.a
+archive=target/staticlib/libpcp.a
 sanitizers=(-fsanitize=address,undefined -fno-sanitize-recover=all)
 
 # usage WORDS..: tells how a script is called, and ends it: status 2 is for wrong arguments alone.
