@@ -34,7 +34,7 @@
    memcpy and memset from the C library, at most 1,300 bytes of stack, and no
    heap:
 
-       cc -std=c99 -Iinclude gateway.c target/staticlib/libpcp.a -o gateway
+       cc -std=c99 -Iinclude gateway.c -Ltarget/staticlib -lpcp -o gateway
 
    Bytes are in hex (80), all other numbers are decimal.  "Asked" is a device or
    gateway on which ..._next_message is called.
