@@ -17,7 +17,7 @@ use Rattle.device.specs.Rules as device
 use Rattle.gateway.specs.Record as gateway-record
 use Rattle.gateway.specs.Rules as gateway
 use Rattle.layout.specs.Layout.{kept, deviceBytes, deviceAt, gatewayBytes, gatewayAt}
-use Rattle.host.specs.Exports.{textOf, deviceNewOf, deviceReceiveOf, gatewayStartOf, gatewayReceiveOf}
+use Rattle.pcp.specs.Exports.{textOf, deviceNewOf, deviceReceiveOf, gatewayStartOf, gatewayReceiveOf}
 use Rattle.upgrade.specs.Records.{deviceNext, gatewayNext}
 use Rattle.upgrade.specs.Held.{heldBy, heldNext, heldAfter}
 use Rattle.upgrade.proofs.Witnessed.{first-only}

@@ -10,7 +10,7 @@ use Rattle.device_record.specs.declared.Device.{Device}
 use Rattle.device_record.specs.Record.{idle, mapBytes}
 use Rattle.gateway.specs.Record.{offer, totalOf}
 use Rattle.layout.specs.Layout.{deviceAt, deviceLength, gatewayAt, gatewayLength}
-use Rattle.host.specs.Exports.{fact, textOf, deviceNewOf, gatewayStartOf}
+use Rattle.pcp.specs.Exports.{fact, textOf, deviceNewOf, gatewayStartOf}
 use Rattle.upgrade.specs.Fold.{after}
 use Rattle.upgrade.specs.Calls.{DeviceCall, GatewayCall}
 use Rattle.upgrade.specs.Records.{World}

@@ -19,9 +19,9 @@ use Rattle.gateway.specs.declared.Gateway.{Gateway}
 use Rattle.gateway.specs.Rules as gateway
 use Rattle.layout.specs.Layout.{kept, deviceAt, deviceBytes, deviceLength, gatewayAt, gatewayBytes, gatewayLength}
 use Rattle.layout.proofs.Layouts.{kept-refused}
-use Rattle.host.specs.Exports
-use Rattle.host.specs.Exports.{packed, Left, Asked, DeviceGiven, GatewayGiven, asked, deviceNewOf, deviceReceiveOf, deviceNextMessageOf, deviceInstallFinishedOf, deviceKept, gatewayKept, gatewayStartOf, gatewayReceiveOf, gatewayNextMessageOf}
-use Rattle.host.specs.Boundary.{numberIn, lengthIn, Refused, Demand1}
+use Rattle.pcp.specs.Exports
+use Rattle.pcp.specs.Exports.{packed, Left, Asked, DeviceGiven, GatewayGiven, asked, deviceNewOf, deviceReceiveOf, deviceNextMessageOf, deviceInstallFinishedOf, deviceKept, gatewayKept, gatewayStartOf, gatewayReceiveOf, gatewayNextMessageOf}
+use Rattle.pcp.specs.Boundary.{numberIn, lengthIn, Refused, Demand1}
 
 -- ---- refusals have numbers below 256
 

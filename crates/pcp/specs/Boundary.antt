@@ -14,7 +14,7 @@ use Rattle.gateway.specs.declared.Gateway.{Gateway}
 use Rattle.gateway.specs.Record.{startOf}
 use Rattle.gateway.specs.Rules as gateway
 use Rattle.layout.specs.Layout.{deviceAt, deviceLength, gatewayAt, gatewayLength}
-use Rattle.host.specs.Exports.{fact, textOf, Left, Asked, DeviceGiven, GatewayGiven, deviceNewOf, deviceReceiveOf, deviceNextMessageOf, deviceInstallFinishedOf, gatewayStartOf, gatewayReceiveOf, gatewayNextMessageOf}
+use Rattle.pcp.specs.Exports.{fact, textOf, Left, Asked, DeviceGiven, GatewayGiven, deviceNewOf, deviceReceiveOf, deviceNextMessageOf, deviceInstallFinishedOf, gatewayStartOf, gatewayReceiveOf, gatewayNextMessageOf}
 
 -- the number in an answer, and the length of the reply
 abbrev pub numberIn : ℕ → ℕ

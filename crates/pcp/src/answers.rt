@@ -2,7 +2,7 @@
 // texts as hosts give them.
 ghost use mathlib.Core.Path.{_≡_};
 ghost use Prim.Native.Nat.{_<_};
-ghost use Rattle.host.specs.Exports.{packed, textOf};
+ghost use Rattle.pcp.specs.Exports.{packed, textOf};
 
 // A record buffer shorter than its layout.
 pub(crate) const SHORT_RECORD: u8 = 64;

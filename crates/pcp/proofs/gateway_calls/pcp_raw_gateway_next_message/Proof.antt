@@ -1,13 +1,13 @@
-use Rattle.host.proofs.Calls.{too-short, gateway-asked, gateway-ask-below}
-use Rattle.host.specs.Exports.{gatewayNextMessageOf}
+use Rattle.pcp.proofs.Calls.{too-short, gateway-asked, gateway-ask-below}
+use Rattle.pcp.specs.Exports.{gatewayNextMessageOf}
 use Rattle.layout.specs.Layout.{gatewayLength}
 use borrow.Author.Needs.{needs}
-use Rattle.host.proofs.gateway_calls.pcp_raw_gateway_next_message.Statement.{statement}
-use Rattle.host.proofs.gateway_calls.pcp_raw_gateway_next_message.Tie as tie
-use Rattle.host.proofs.gateway_calls.pcp_raw_gateway_next_message.Reads as reads
-use Rattle.host.proofs.gateway_calls.pcp_raw_gateway_next_message.Lts as lts
+use Rattle.pcp.proofs.gateway_calls.pcp_raw_gateway_next_message.Statement.{statement}
+use Rattle.pcp.proofs.gateway_calls.pcp_raw_gateway_next_message.Tie as tie
+use Rattle.pcp.proofs.gateway_calls.pcp_raw_gateway_next_message.Reads as reads
+use Rattle.pcp.proofs.gateway_calls.pcp_raw_gateway_next_message.Lts as lts
 use Rattle.gateway.proofs.next_message.Reads as next-message-reads
-use Rattle.host.proofs.answers.packed.Reads as packed-reads
+use Rattle.pcp.proofs.answers.packed.Reads as packed-reads
 use Rattle.layout.proofs.gateway_at.Reads as gateway-at-reads
 
 -- src/gateway_calls.rt:60:16

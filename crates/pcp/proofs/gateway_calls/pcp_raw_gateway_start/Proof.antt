@@ -1,13 +1,13 @@
-use Rattle.host.proofs.Calls.{too-short, gateway-started}
-use Rattle.host.specs.Exports.{gatewayStartOf}
+use Rattle.pcp.proofs.Calls.{too-short, gateway-started}
+use Rattle.pcp.specs.Exports.{gatewayStartOf}
 use Rattle.layout.specs.Layout.{gatewayLength}
 use borrow.Author.Needs.{needs}
-use Rattle.host.proofs.gateway_calls.pcp_raw_gateway_start.Statement.{statement}
-use Rattle.host.proofs.gateway_calls.pcp_raw_gateway_start.Tie as tie
-use Rattle.host.proofs.gateway_calls.pcp_raw_gateway_start.Reads as reads
-use Rattle.host.proofs.gateway_calls.pcp_raw_gateway_start.Lts as lts
+use Rattle.pcp.proofs.gateway_calls.pcp_raw_gateway_start.Statement.{statement}
+use Rattle.pcp.proofs.gateway_calls.pcp_raw_gateway_start.Tie as tie
+use Rattle.pcp.proofs.gateway_calls.pcp_raw_gateway_start.Reads as reads
+use Rattle.pcp.proofs.gateway_calls.pcp_raw_gateway_start.Lts as lts
 use Rattle.gateway.proofs.Gateway.start.Reads as start-reads
-use Rattle.host.proofs.answers.text_of.Reads as text-of-reads
+use Rattle.pcp.proofs.answers.text_of.Reads as text-of-reads
 use Rattle.layout.proofs.keep_gateway.Reads as keep-gateway-reads
 
 -- src/gateway_calls.rt:22:9

@@ -5,7 +5,7 @@ use crate::answers::packed;
 use crate::answers::text_of;
 use gateway::Gateway;
 ghost use mathlib.Core.Path.{_≡_};
-ghost use Rattle.host.specs.Exports.{gatewayStartOf, gatewayReceiveOf, gatewayNextMessageOf};
+ghost use Rattle.pcp.specs.Exports.{gatewayStartOf, gatewayReceiveOf, gatewayNextMessageOf};
 
 // A gateway for a package.
 #[no_mangle]

@@ -1,14 +1,14 @@
-use Rattle.host.proofs.Calls.{too-short, device-made}
-use Rattle.host.specs.Exports.{deviceNewOf}
+use Rattle.pcp.proofs.Calls.{too-short, device-made}
+use Rattle.pcp.specs.Exports.{deviceNewOf}
 use mathlib.Core.Path.{_∙_}
 use Rattle.layout.specs.Layout.{deviceLength}
 use borrow.Author.Needs.{needs}
-use Rattle.host.proofs.device_calls.pcp_raw_device_new.Statement.{statement}
-use Rattle.host.proofs.device_calls.pcp_raw_device_new.Tie as tie
-use Rattle.host.proofs.device_calls.pcp_raw_device_new.Reads as reads
-use Rattle.host.proofs.device_calls.pcp_raw_device_new.Lts as lts
+use Rattle.pcp.proofs.device_calls.pcp_raw_device_new.Statement.{statement}
+use Rattle.pcp.proofs.device_calls.pcp_raw_device_new.Tie as tie
+use Rattle.pcp.proofs.device_calls.pcp_raw_device_new.Reads as reads
+use Rattle.pcp.proofs.device_calls.pcp_raw_device_new.Lts as lts
 use Rattle.device_record.proofs.Device.new.Reads as new-reads
-use Rattle.host.proofs.answers.text_of.Reads as text-of-reads
+use Rattle.pcp.proofs.answers.text_of.Reads as text-of-reads
 use Rattle.layout.proofs.keep_device.Reads as keep-device-reads
 
 -- src/device_calls.rt:15:9

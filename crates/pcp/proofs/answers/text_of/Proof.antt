@@ -1,12 +1,12 @@
-use Rattle.host.specs.Exports.{textOf}
+use Rattle.pcp.specs.Exports.{textOf}
 use Rattle.basis.proofs.Choosing.{pick-yes, pick-no}
 use borrow.Author.Tests.{le-leb, lt-leb}
 use mathlib.Core.Path.{sym, _∙_}
 use borrow.Author.Needs.{needs}
-use Rattle.host.proofs.answers.text_of.Statement.{statement}
-use Rattle.host.proofs.answers.text_of.Tie as tie
-use Rattle.host.proofs.answers.text_of.Reads as reads
-use Rattle.host.proofs.answers.text_of.Lts as lts
+use Rattle.pcp.proofs.answers.text_of.Statement.{statement}
+use Rattle.pcp.proofs.answers.text_of.Tie as tie
+use Rattle.pcp.proofs.answers.text_of.Reads as reads
+use Rattle.pcp.proofs.answers.text_of.Lts as lts
 use Rattle.message.proofs.version_at.Reads as version-at-reads
 
 -- src/answers.rt:24:9

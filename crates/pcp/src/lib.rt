@@ -8,7 +8,7 @@ mod gateway_calls;
 ghost use mathlib.Core.Path.{_≡_};
 ghost use Rattle.checksum.specs.Check.{checkOf, messageCheck};
 ghost use Rattle.message.specs.Recognition.{recognition};
-ghost use Rattle.host.specs.Exports.{fact};
+ghost use Rattle.pcp.specs.Exports.{fact};
 
 // The check of any bytes.
 #[no_mangle]

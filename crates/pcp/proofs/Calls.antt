@@ -27,8 +27,8 @@ use Rattle.gateway.specs.Record.{startOf}
 use Rattle.gateway.specs.Coded as coded
 use Rattle.gateway.specs.Rules as gateway
 use Rattle.layout.specs.Layout.{deviceAt, deviceBytes, deviceLength, gatewayAt, gatewayBytes, gatewayLength, kept}
-use Rattle.host.specs.Exports.{fact, shortRecord, packed, textOf, Left, Asked, DeviceGiven, GatewayGiven, asked, deviceNewOf, deviceReceiveOf, deviceNextMessageOf, deviceInstallFinishedOf, deviceKept, gatewayKept, gatewayStartOf, gatewayReceiveOf, gatewayNextMessageOf}
-use Rattle.host.proofs.Fits.{device-reply-short, device-ask-short, gateway-reply-fits, gateway-ask-fits}
+use Rattle.pcp.specs.Exports.{fact, shortRecord, packed, textOf, Left, Asked, DeviceGiven, GatewayGiven, asked, deviceNewOf, deviceReceiveOf, deviceNextMessageOf, deviceInstallFinishedOf, deviceKept, gatewayKept, gatewayStartOf, gatewayReceiveOf, gatewayNextMessageOf}
+use Rattle.pcp.proofs.Fits.{device-reply-short, device-ask-short, gateway-reply-fits, gateway-ask-fits}
 
 -- ---- a record buffer that is too short, and one that is not
 

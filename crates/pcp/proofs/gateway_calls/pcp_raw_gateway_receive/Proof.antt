@@ -1,13 +1,13 @@
-use Rattle.host.proofs.Calls.{too-short, gateway-given, gateway-reply-below}
-use Rattle.host.specs.Exports.{gatewayReceiveOf}
+use Rattle.pcp.proofs.Calls.{too-short, gateway-given, gateway-reply-below}
+use Rattle.pcp.specs.Exports.{gatewayReceiveOf}
 use Rattle.layout.specs.Layout.{gatewayLength}
 use borrow.Author.Needs.{needs}
-use Rattle.host.proofs.gateway_calls.pcp_raw_gateway_receive.Statement.{statement}
-use Rattle.host.proofs.gateway_calls.pcp_raw_gateway_receive.Tie as tie
-use Rattle.host.proofs.gateway_calls.pcp_raw_gateway_receive.Reads as reads
-use Rattle.host.proofs.gateway_calls.pcp_raw_gateway_receive.Lts as lts
+use Rattle.pcp.proofs.gateway_calls.pcp_raw_gateway_receive.Statement.{statement}
+use Rattle.pcp.proofs.gateway_calls.pcp_raw_gateway_receive.Tie as tie
+use Rattle.pcp.proofs.gateway_calls.pcp_raw_gateway_receive.Reads as reads
+use Rattle.pcp.proofs.gateway_calls.pcp_raw_gateway_receive.Lts as lts
 use Rattle.gateway.proofs.receive.Reads as receive-reads
-use Rattle.host.proofs.answers.packed.Reads as packed-reads
+use Rattle.pcp.proofs.answers.packed.Reads as packed-reads
 use Rattle.layout.proofs.gateway_at.Reads as gateway-at-reads
 use Rattle.layout.proofs.keep_gateway.Reads as keep-gateway-reads
 

@@ -1,14 +1,14 @@
-use Rattle.host.proofs.Calls.{too-short, device-given, device-reply-below}
-use Rattle.host.specs.Exports.{deviceReceiveOf}
+use Rattle.pcp.proofs.Calls.{too-short, device-given, device-reply-below}
+use Rattle.pcp.specs.Exports.{deviceReceiveOf}
 use mathlib.Core.Path.{_∙_}
 use Rattle.layout.specs.Layout.{deviceLength}
 use borrow.Author.Needs.{needs}
-use Rattle.host.proofs.device_calls.pcp_raw_device_receive.Statement.{statement}
-use Rattle.host.proofs.device_calls.pcp_raw_device_receive.Tie as tie
-use Rattle.host.proofs.device_calls.pcp_raw_device_receive.Reads as reads
-use Rattle.host.proofs.device_calls.pcp_raw_device_receive.Lts as lts
+use Rattle.pcp.proofs.device_calls.pcp_raw_device_receive.Statement.{statement}
+use Rattle.pcp.proofs.device_calls.pcp_raw_device_receive.Tie as tie
+use Rattle.pcp.proofs.device_calls.pcp_raw_device_receive.Reads as reads
+use Rattle.pcp.proofs.device_calls.pcp_raw_device_receive.Lts as lts
 use Rattle.device.proofs.receive.Reads as receive-reads
-use Rattle.host.proofs.answers.packed.Reads as packed-reads
+use Rattle.pcp.proofs.answers.packed.Reads as packed-reads
 use Rattle.layout.proofs.device_at.Reads as device-at-reads
 use Rattle.layout.proofs.keep_device.Reads as keep-device-reads
 

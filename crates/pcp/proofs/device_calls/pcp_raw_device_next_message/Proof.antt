@@ -1,14 +1,14 @@
-use Rattle.host.proofs.Calls.{too-short, device-asked, device-ask-below}
-use Rattle.host.specs.Exports.{deviceNextMessageOf}
+use Rattle.pcp.proofs.Calls.{too-short, device-asked, device-ask-below}
+use Rattle.pcp.specs.Exports.{deviceNextMessageOf}
 use mathlib.Core.Path.{_∙_}
 use Rattle.layout.specs.Layout.{deviceLength}
 use borrow.Author.Needs.{needs}
-use Rattle.host.proofs.device_calls.pcp_raw_device_next_message.Statement.{statement}
-use Rattle.host.proofs.device_calls.pcp_raw_device_next_message.Tie as tie
-use Rattle.host.proofs.device_calls.pcp_raw_device_next_message.Reads as reads
-use Rattle.host.proofs.device_calls.pcp_raw_device_next_message.Lts as lts
+use Rattle.pcp.proofs.device_calls.pcp_raw_device_next_message.Statement.{statement}
+use Rattle.pcp.proofs.device_calls.pcp_raw_device_next_message.Tie as tie
+use Rattle.pcp.proofs.device_calls.pcp_raw_device_next_message.Reads as reads
+use Rattle.pcp.proofs.device_calls.pcp_raw_device_next_message.Lts as lts
 use Rattle.device.proofs.next_message.Reads as next-message-reads
-use Rattle.host.proofs.answers.packed.Reads as packed-reads
+use Rattle.pcp.proofs.answers.packed.Reads as packed-reads
 use Rattle.layout.proofs.device_at.Reads as device-at-reads
 
 -- src/device_calls.rt:65:16

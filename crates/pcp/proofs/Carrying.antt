@@ -28,10 +28,10 @@ use Rattle.layout.specs.Layout.{kept, deviceAt, deviceBytes, deviceLength, gate
 use Rattle.layout.proofs.Layouts.{kept-new}
 use Rattle.layout.specs.Identity.{DeviceTexts}
 use Rattle.layout.proofs.Identity.{identity}
-use Rattle.host.specs.Exports.{fact, textOf, Left, DeviceGiven, GatewayGiven, deviceNewOf, deviceReceiveOf, deviceInstallFinishedOf, deviceKept, gatewayKept, gatewayStartOf, gatewayReceiveOf}
-use Rattle.host.specs.Boundary.{Carried}
-use Rattle.host.proofs.Calls.{long-enough}
-use Rattle.host.proofs.Refusals.{DeviceOutcome, device-outcome, GatewayOutcome, gateway-outcome, done, declined}
+use Rattle.pcp.specs.Exports.{fact, textOf, Left, DeviceGiven, GatewayGiven, deviceNewOf, deviceReceiveOf, deviceInstallFinishedOf, deviceKept, gatewayKept, gatewayStartOf, gatewayReceiveOf}
+use Rattle.pcp.specs.Boundary.{Carried}
+use Rattle.pcp.proofs.Calls.{long-enough}
+use Rattle.pcp.proofs.Refusals.{DeviceOutcome, device-outcome, GatewayOutcome, gateway-outcome, done, declined}
 
 -- ---- version texts of 16 bytes stay so
 

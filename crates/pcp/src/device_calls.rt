@@ -4,7 +4,7 @@ use crate::answers::packed;
 use crate::answers::text_of;
 use device::Device;
 ghost use mathlib.Core.Path.{_≡_};
-ghost use Rattle.host.specs.Exports.{deviceNewOf, deviceReceiveOf, deviceNextMessageOf, deviceInstallFinishedOf};
+ghost use Rattle.pcp.specs.Exports.{deviceNewOf, deviceReceiveOf, deviceNextMessageOf, deviceInstallFinishedOf};
 
 // A fresh device that runs a version.
 #[no_mangle]

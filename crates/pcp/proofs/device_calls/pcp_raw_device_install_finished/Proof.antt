@@ -1,12 +1,12 @@
-use Rattle.host.proofs.Calls.{too-short, device-finished}
-use Rattle.host.specs.Exports.{deviceInstallFinishedOf}
+use Rattle.pcp.proofs.Calls.{too-short, device-finished}
+use Rattle.pcp.specs.Exports.{deviceInstallFinishedOf}
 use mathlib.Core.Path.{_∙_}
 use Rattle.layout.specs.Layout.{deviceLength}
 use borrow.Author.Needs.{needs}
-use Rattle.host.proofs.device_calls.pcp_raw_device_install_finished.Statement.{statement}
-use Rattle.host.proofs.device_calls.pcp_raw_device_install_finished.Tie as tie
-use Rattle.host.proofs.device_calls.pcp_raw_device_install_finished.Reads as reads
-use Rattle.host.proofs.device_calls.pcp_raw_device_install_finished.Lts as lts
+use Rattle.pcp.proofs.device_calls.pcp_raw_device_install_finished.Statement.{statement}
+use Rattle.pcp.proofs.device_calls.pcp_raw_device_install_finished.Tie as tie
+use Rattle.pcp.proofs.device_calls.pcp_raw_device_install_finished.Reads as reads
+use Rattle.pcp.proofs.device_calls.pcp_raw_device_install_finished.Lts as lts
 use Rattle.device.proofs.install_finished.Reads as install-finished-reads
 use Rattle.layout.proofs.device_at.Reads as device-at-reads
 use Rattle.layout.proofs.keep_device.Reads as keep-device-reads
