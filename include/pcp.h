@@ -30,11 +30,11 @@
    pcp_device_stored, pcp_device_image_length, pcp_device_map_length,
    pcp_gateway_phase, pcp_gateway_ending.
 
-   Building.  The library is one archive for x86-64 Linux, libhost.a.  It needs
+   Building.  The library is one archive for x86-64 Linux, libpcp.a.  It needs
    memcpy and memset from the C library, at most 1,300 bytes of stack, and no
    heap:
 
-       cc -std=c99 -Iinclude gateway.c target/staticlib/libhost.a -o gateway
+       cc -std=c99 -Iinclude gateway.c -Ltarget/staticlib -lpcp -o gateway
 
    Bytes are in hex (80), all other numbers are decimal.  "Asked" is a device or
    gateway on which ..._next_message is called.

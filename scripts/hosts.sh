@@ -1,6 +1,6 @@
 # Shared by the other scripts, which source it at the repository's root.
 
-archive=target/staticlib/libhost.a
+archive=target/staticlib/libpcp.a
 sanitizers=(-fsanitize=address,undefined -fno-sanitize-recover=all)
 
 # usage WORDS..: tells how a script is called, and ends it: status 2 is for wrong arguments alone.
@@ -60,10 +60,10 @@ for_each() {
     done
 }
 
-# c_host SOURCE PROGRAM FLAG..: builds a C program that links the library.
+# c_host SOURCE PROGRAM FLAG..: builds a C program that links the library, as the header says.
 c_host() {
     mkdir -p target/hosts
-    gcc -std=c99 -Wall -Wextra -Werror -O2 "${@:3}" -Iinclude "$1" "$archive" -o "target/hosts/$2"
+    gcc -std=c99 -Wall -Wextra -Werror -O2 "${@:3}" -Iinclude "$1" -L"$(dirname "$archive")" -lpcp -o "target/hosts/$2"
 }
 
 # rust_program SOURCE PROGRAM FLAG..: builds a Rust program; with --crate-type, a crate.

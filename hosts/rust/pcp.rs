@@ -254,7 +254,7 @@
 //!
 //! # Building
 //!
-//! `rt staticlib host`, at the repository's root, proves and writes the archive, for x86-64 Linux. A program names this
+//! `rt staticlib pcp`, at the repository's root, proves and writes the archive, for x86-64 Linux. A program names this
 //! folder as the path of its dependency `pcp`; cargo then finds the archive, or where `PCP_ARCHIVE_FOLDER` says (see
 //! `build.rs`). `upgrade.rs` is a whole program of both hosts:
 //!
@@ -265,7 +265,7 @@
 //! Without cargo:
 //!
 //! ```text
-//! rustc --edition 2021 --crate-type rlib -L native=target/staticlib -l static=host hosts/rust/pcp.rs --out-dir target
+//! rustc --edition 2021 --crate-type rlib -L native=target/staticlib -l static=pcp hosts/rust/pcp.rs --out-dir target
 //! rustc --edition 2021 --extern pcp=target/libpcp.rlib -o target/upgrade hosts/rust/upgrade.rs
 //! ```
 

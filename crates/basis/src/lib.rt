@@ -1,5 +1,6 @@
-// What the crates above share: the lesser of two numbers, bytes and WORDs at a place of a slice, and
-// the one way in which a buffer is written.
+// What the crates above share: choice by a test, refusals in order, least and product, bytes and
+// WORDs at a place of a slice, membership, the one way in which a buffer is written,
+// and the numbers that calls answer with.
 pub mod number;
 
 ghost use mathlib.Core.Path.{_≡_};

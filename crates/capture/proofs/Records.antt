@@ -11,6 +11,7 @@ use lib.Seq.{getD-append-add, drop-append-add, take-append-seam, take-add, drop-
 use Rattle.basis.specs.Bytes.{Bytes, wordAt, wordBytes, part}
 use Rattle.basis.proofs.Lists.{part-within}
 use Rattle.capture.specs.Capture.{Item, markOf, recordBytes, headLength, wrongMark, left, itemAt, placeAfter, partOf}
+use Rattle.capture.specs.Recorded.{Recorded}
 use Rattle.capture.proofs.Steps.{Found, found, is-found}
 
 right-mark : (toDevice : Bool) → wrongMark (markOf toDevice) ≡ false
@@ -93,3 +94,12 @@ stands {toDevice} {start} {count} capture at bytes e = from-found (is-found capt
     from-found f =
         rw (take-add headLength count (drop at capture), drop-drop headLength at capture, ← part-within capture at headLength (omega arith), ← f .behind, head-of)
         (words _ _ _ _ _ _ (partOf capture start count) (bytes (at + 1)) (bytes (at + 2 + 1)) (f .mark) (f .counted ∙ sym (length-within capture start count (f .within))))
+
+pub recorded : Recorded
+recorded =
+    record {
+      read-record = read-record;
+      read-message = read-message;
+      read-next = read-next;
+      stands = λ toDevice start count capture at. stands capture at;
+    }

@@ -24,4 +24,4 @@ unfolding pick refusal oneOf part same over patched marked mark cleared missingF
     announceResult sameFields resumes fragmentLength passes completion executeResult
     begin store onQuery onAnnounce onFragment onDownloadReply onExecute onResultReply handle
     receiveOf wanted nextMessageOf installFinishedOf
-device-cases = record { step = refl; change = refl; ask = refl; finish = refl; give-order = refl; ask-order = refl }
+device-cases = record { step = refl; change = refl; answer = refl; ask = refl; finish = refl; give-order = refl; ask-order = refl }

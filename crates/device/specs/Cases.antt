@@ -15,9 +15,16 @@ use Rattle.device_decisions.specs.Cases.{fields}
 use Rattle.device.specs.declared.Finished.{Finished}
 use Rattle.device.specs.Rules.{After, handle, receiveOf, nextMessageOf, installFinishedOf}
 
--- runs V1; V2 in 3 fragments of 32 bytes, with no check code, kept code 04
+-- runs V1, kept code 04; phase, the target's figure, size, total and check code, stored count, last length
+abbrev pub held : (phase figure size total code stored last : ℕ) → Device
+held phase figure size total code stored last = device phase (text 1) (text figure) size total code stored last 0x04
+
+-- V2 in 3 fragments of 32 bytes, with no check code
 abbrev pub holds : (phase stored last : ℕ) → Device
-holds phase stored last = device phase (text 1) (text 2) 32 3 0 stored last 0x04
+holds phase stored last = held phase 2 32 3 0 stored last
+
+abbrev pub zeros : ℕ → List ℕ
+zeros n = replicate n 0
 
 -- code and data of a message of n bytes at the front of a buffer
 abbrev pub spoken : (n : ℕ) → List ℕ → List ℕ
@@ -87,6 +94,10 @@ State = Device × List ℕ × List ℕ
 abbrev places : (a b c : ℕ) → List ℕ
 places a b c = replicate 32 a ++ (replicate 32 b ++ replicate 32 c)
 
+-- two whole fragments, and a third of one byte; its check is 2C44 over these 65 bytes
+abbrev filled : List ℕ
+filled = replicate 32 0x41 ++ (replicate 32 0x42 ++ (0x43 ∷ zeros 31))
+
 -- before a message; the message; after it
 abbrev pub changes : List (State × DeviceMessage × State)
 changes =
@@ -95,44 +106,56 @@ changes =
     ((holds 1 1 0, places 0 0x42 0, 0x02 ∷ []), fragment 0x00 2 (replicate 32 0x43), (holds 1 2 32, places 0 0x42 0x43, 0x06 ∷ [])) ∷
     ((holds 1 1 7, places 0 0 0x43, 0x04 ∷ []), fragment 0x00 1 (replicate 32 0x42), (holds 1 2 7, places 0 0x42 0x43, 0x06 ∷ [])) ∷
     -- the ninth fragment's bit is the first of the second byte
-    (
-      (device 1 (text 1) (text 2) 32 9 0 0 0 0x04, replicate 289 0, 0x00 ∷ 0x00 ∷ []),
-      fragment 0x00 8 (0x41 ∷ []),
-      (device 1 (text 1) (text 2) 32 9 0 1 1 0x04, replicate 256 0 ++ (0x41 ∷ replicate 32 0), 0x00 ∷ 0x01 ∷ []),
-    ) ∷
+    ((held 1 2 32 9 0 0 0, zeros 289, zeros 2), fragment 0x00 8 (0x41 ∷ []), (held 1 2 32 9 0 1 1, zeros 256 ++ (0x41 ∷ zeros 32), 0x00 ∷ 0x01 ∷ [])) ∷
     -- all stored: Loaded with no code or the right one, over 65 bytes here; Failed with another
-    ((holds 1 2 0, places 0x41 0x42 0, 0x03 ∷ []), fragment 0x00 2 (replicate 32 0x43), (holds 2 3 32, places 0x41 0x42 0x43, 0x07 ∷ [])) ∷ (
-      (device 1 (text 1) (text 2) 32 3 0x2C44 2 0 0x04, places 0x41 0x42 0x44, 0x03 ∷ []),
-      fragment 0x00 2 (0x43 ∷ []),
-      (device 2 (text 1) (text 2) 32 3 0x2C44 3 1 0x04, replicate 32 0x41 ++ (replicate 32 0x42 ++ (0x43 ∷ replicate 31 0x44)), 0x07 ∷ []),
-    ) ∷ (
-      (device 1 (text 1) (text 2) 32 3 7 2 0 0x04, places 0x41 0x42 0, 0x03 ∷ []),
-      fragment 0x00 2 (replicate 32 0x43),
-      (device 4 (text 1) (text 2) 32 3 7 3 32 0x04, places 0x41 0x42 0x43, 0x07 ∷ []),
-    ) ∷
+    ((holds 1 2 0, places 0x41 0x42 0, 0x03 ∷ []), fragment 0x00 2 (replicate 32 0x43), (holds 2 3 32, places 0x41 0x42 0x43, 0x07 ∷ [])) ∷
+    ((held 1 2 32 3 0x2C44 2 0, places 0x41 0x42 0, 0x03 ∷ []), fragment 0x00 2 (0x43 ∷ []), (held 2 2 32 3 0x2C44 3 1, filled, 0x07 ∷ [])) ∷
+    ((held 1 2 32 3 0x2C45 2 0, places 0x41 0x42 0, 0x03 ∷ []), fragment 0x00 2 (0x43 ∷ []), (held 4 2 32 3 0x2C45 3 1, filled, 0x07 ∷ [])) ∷
     -- an announcement afresh: its four fields, count and last length 0, its map bytes zeroed and no more
-    ((holds 2 3 7, places 1 2 3, 0xFF ∷ 0xFF ∷ []), announce (fields 3 40 2 5), (device 1 (text 1) (text 3) 40 2 5 0 0 0x04, places 1 2 3, 0x00 ∷ 0xFF ∷ [])) ∷
+    ((holds 2 3 7, places 1 2 3, 0xFF ∷ 0xFF ∷ []), announce (fields 3 40 2 5), (held 1 3 40 2 5 0 0, places 1 2 3, 0x00 ∷ 0xFF ∷ [])) ∷
     -- resumed, and answered by another code: nothing changes
-    (
-      (device 2 (text 1) (text 2) 32 3 5 3 7 0x04, places 1 2 3, 0xFF ∷ []),
-      announce (fields 2 32 3 5),
-      (device 2 (text 1) (text 2) 32 3 5 3 7 0x04, places 1 2 3, 0xFF ∷ []),
-    ) ∷
+    ((held 2 2 32 3 5 3 7, places 1 2 3, 0xFF ∷ []), announce (fields 2 32 3 5), (held 2 2 32 3 5 3 7, places 1 2 3, 0xFF ∷ [])) ∷
     ((holds 2 3 7, places 1 2 3, 0xFF ∷ []), announce (fields 1 40 2 5), (holds 2 3 7, places 1 2 3, 0xFF ∷ [])) ∷
     []
 
--- asked: record, the first map byte; number, and the message's code and data
-abbrev pub asked : List (Device × ℕ × List ℕ)
+-- a reply buffer, and a call's whole answer: what no rule names stays
+abbrev fives : ℕ → List ℕ
+fives n = replicate n 0x55
+
+abbrev after : (number length : ℕ) → Device → (image map reply : List ℕ) → After
+after number length d image map reply = record { number = number; length = length; device = d; image = image; map = map; reply = reply }
+
+-- 19 answered with V1, and 20 answered 00
+abbrev shown : List ℕ
+shown = 0xFF ∷ 0xFE ∷ 0x01 ∷ 0x13 ∷ 0x1E ∷ 0xA6 ∷ 0x00 ∷ 0x11 ∷ 0x00 ∷ text 1
+
+abbrev accepted : List ℕ
+accepted = 0xFF ∷ 0xFE ∷ 0x01 ∷ 0x14 ∷ 0xD7 ∷ 0x68 ∷ 0x00 ∷ 0x01 ∷ 0x00 ∷ []
+
+-- the second place filled, its bit set: record, message; refused, handled, replied, begun afresh, resumed, stored
+abbrev pub answers : List (Device × DeviceMessage × After)
+answers =
+    (holds 0 1 0, resultReply 0x00, after 9 0 (holds 0 1 0) (places 0 0x42 0) (0x02 ∷ []) (fives 26)) ∷
+    (holds 6 1 0, resultReply 0x00, after 0 0 (holds 0 1 0) (places 0 0x42 0) (0x02 ∷ []) (fives 26)) ∷
+    (holds 1 1 0, query, after 0 25 (holds 1 1 0) (places 0 0x42 0) (0x02 ∷ []) (shown ++ fives 1)) ∷
+    (holds 0 1 0, announce (fields 3 32 1 7), after 0 9 (held 1 3 32 1 7 0 0) (places 0 0x42 0) (0x00 ∷ []) (accepted ++ fives 17)) ∷
+    (held 2 2 32 3 7 3 5, announce (fields 2 32 3 7), after 0 9 (held 2 2 32 3 7 3 5) (places 0 0x42 0) (0x02 ∷ []) (accepted ++ fives 17)) ∷
+    (holds 1 1 0, fragment 0x00 0 (replicate 32 0x41), after 0 0 (holds 1 2 0) (places 0x41 0x42 0) (0x03 ∷ []) (fives 26)) ∷
+    []
+
+-- asked: record, map; number, length, and the message's code and data
+abbrev pub asked : List (Device × List ℕ × List ℕ)
 asked =
-    (holds 0 0 0, 0x00, 9 ∷ []) ∷
-    (holds 1 1 0, 0x02, 0 ∷ 21 ∷ (text 2 ++ (0x00 ∷ 0x00 ∷ []))) ∷
-    (holds 1 2 0, 0x03, 0 ∷ 21 ∷ (text 2 ++ (0x00 ∷ 0x02 ∷ []))) ∷
-    (holds 1 2 0, 0x07, 29 ∷ []) ∷  -- the map shows none missing
-    (holds 2 3 7, 0x07, 0 ∷ 22 ∷ 0x00 ∷ []) ∷
-    (holds 3 3 7, 0x07, 9 ∷ []) ∷
-    (holds 4 3 7, 0x07, 0 ∷ 22 ∷ 0x07 ∷ []) ∷
-    (holds 5 3 7, 0x07, 9 ∷ []) ∷
-    (holds 6 3 7, 0x07, 0 ∷ 24 ∷ 0x04 ∷ text 1) ∷
+    (holds 0 0 0, 0x00 ∷ [], 9 ∷ 0 ∷ []) ∷
+    (holds 1 1 0, 0x02 ∷ [], 0 ∷ 26 ∷ 21 ∷ (text 2 ++ (0x00 ∷ 0x00 ∷ []))) ∷
+    (holds 1 2 0, 0x03 ∷ [], 0 ∷ 26 ∷ 21 ∷ (text 2 ++ (0x00 ∷ 0x02 ∷ []))) ∷
+    (holds 1 2 0, 0x07 ∷ [], 29 ∷ 0 ∷ []) ∷  -- the map shows none missing
+    (held 1 2 32 40 0 33 0, 0xFF ∷ 0xFF ∷ 0xFF ∷ 0xFF ∷ 0x01 ∷ [], 0 ∷ 26 ∷ 21 ∷ (text 2 ++ (0x00 ∷ 0x21 ∷ []))) ∷
+    (holds 2 3 7, 0x07 ∷ [], 0 ∷ 9 ∷ 22 ∷ 0x00 ∷ []) ∷
+    (holds 3 3 7, 0x07 ∷ [], 9 ∷ 0 ∷ []) ∷
+    (holds 4 3 7, 0x07 ∷ [], 0 ∷ 9 ∷ 22 ∷ 0x07 ∷ []) ∷
+    (holds 5 3 7, 0x07 ∷ [], 9 ∷ 0 ∷ []) ∷
+    (holds 6 3 7, 0x07 ∷ [], 0 ∷ 25 ∷ 24 ∷ 0x04 ∷ text 1) ∷
     []
 
 -- the installer's end: record, code; number, record
@@ -172,14 +195,11 @@ asking =
     (26, holds 3 3 0, 96, 9) ∷
     []
 
-abbrev pub zeros : ℕ → List ℕ
-zeros n = replicate n 0
-
 abbrev pub stateOf : After → State
 stateOf a = (a .device, a .image, a .map)
 
 abbrev pub answerOf : Sent → List ℕ
-answerOf s = s .number ∷ spoken (s .length) (s .buffer)
+answerOf s = s .number ∷ s .length ∷ spoken (s .length) (s .buffer)
 
 pub record DeviceCases : Type 0 where
   pub step :
@@ -192,7 +212,12 @@ pub record DeviceCases : Type 0 where
       (λ (r : State × DeviceMessage × State). stateOf (handle (r .0 .0) (r .0 .1) (r .0 .2) (zeros 26) 0 (found (r .1))))
       (λ r. r .2)
       changes
-  pub ask : Agree (λ (r : Device × ℕ × List ℕ). answerOf (nextMessageOf (r .0) (zeros 96) (r .1 ∷ []) (zeros 26))) (λ r. r .2) asked
+  pub answer :
+      Agree
+      (λ (r : Device × DeviceMessage × After). handle (r .0) (places 0 0x42 0) (0x02 ∷ []) (fives 26) 0 (found (r .1)))
+      (λ r. r .2)
+      answers
+  pub ask : Agree (λ (r : Device × List ℕ × List ℕ). answerOf (nextMessageOf (r .0) (zeros 1280) (r .1) (zeros 26))) (λ r. r .2) asked
   pub finish : Agree (λ (r : Device × ℕ × Finished). installFinishedOf (r .0) (r .1)) (λ r. r .2) finished
   pub give-order :
       Agree

@@ -5,7 +5,7 @@ use mathlib.Core.Bool.{Bool, true, false}
 use mathlib.Core.List.{List, [], _∷_}
 use lib.ListN.{replicate}
 use Rattle.basis.specs.Cases.{Agree, allowed}
-use Rattle.message.specs.Cases.{text}
+use Rattle.message.specs.Cases.{text, noText}
 use Rattle.device_record.specs.declared.Device.{Device}
 use Rattle.device_record.specs.declared.Made.{Made}
 use Rattle.device_record.specs.Record.{holding, conditionOk, newOf, recordOk, mapBytes, roomOk}
@@ -33,7 +33,7 @@ numbers =
 abbrev pub making : List (List ℕ × Made)
 making =
     (text 1, record { number = 0; device = device 0 (text 1) (text 1) 0 0 0 0 0 0 }) ∷
-    (0x1F ∷ text 1, record { number = 17; device = device 0 (replicate 16 0) (replicate 16 0) 0 0 0 0 0 0 }) ∷
+    (noText, record { number = 17; device = device 0 (replicate 16 0) (replicate 16 0) 0 0 0 0 0 0 }) ∷
     []
 
 -- a record, and whether it keeps the rules (29)
@@ -42,14 +42,14 @@ kept =
     -- Idle: phase, kept code and version texts alone
     (device 0 (text 1) (text 2) 0 0 0 0 0 0x00, true) ∷
     (device 0 (text 1) (text 2) 31 0 0 1 32 0x0A, true) ∷
-    (device 0 [] (text 2) 0 0 0 0 0 0x00, false) ∷
-    (device 0 (text 1) [] 0 0 0 0 0 0x00, false) ∷
+    (device 0 noText (text 2) 0 0 0 0 0 0x00, false) ∷
+    (device 0 (text 1) noText 0 0 0 0 0 0x00, false) ∷
     (device 0 (text 1) (text 2) 0 0 0 0 0 0x02, false) ∷
     -- Loading: each field at the ends of its range, and past them
     (device 1 (text 1) (text 2) 32 1 0 0 32 0x7F, true) ∷
     (device 1 (text 1) (text 2) 500 65535 65535 65534 500 0x00, true) ∷
-    (device 1 [] (text 2) 32 9 0 3 0 0x00, false) ∷
-    (device 1 (text 1) [] 32 9 0 3 0 0x00, false) ∷
+    (device 1 noText (text 2) 32 9 0 3 0 0x00, false) ∷
+    (device 1 (text 1) noText 32 9 0 3 0 0x00, false) ∷
     (device 1 (text 1) (text 2) 31 9 0 3 0 0x00, false) ∷
     (device 1 (text 1) (text 2) 501 9 0 3 0 0x00, false) ∷
     (device 1 (text 1) (text 2) 32 0 0 0 0 0x00, false) ∷

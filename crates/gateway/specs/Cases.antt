@@ -6,7 +6,7 @@ use mathlib.Core.Bool.{Bool, true, false}
 use mathlib.Core.List.{List, [], _∷_, _++_}
 use lib.ListN.{take, drop, replicate}
 use Rattle.basis.specs.Cases.{Agree}
-use Rattle.message.specs.Cases.{text}
+use Rattle.message.specs.Cases.{text, noText}
 use Rattle.message.specs.Messages.{GatewayMessage, queryReply, announceReply, fragmentRequest, downloadReport, executeReply, resultReport, found}
 use Rattle.codec.specs.Codec.{Sent}
 use Rattle.gateway.specs.declared.Gateway.{Gateway}
@@ -23,7 +23,7 @@ gateway phase ending version size length code =
 abbrev pub content : List ℕ
 content = replicate 32 0x41 ++ (0x42 ∷ [])
 
--- V2 is that package, with a check code of its maker's
+-- V2 is that package, with a check code that no start gives it, so that a row shows where the code goes
 abbrev pub offers : (phase ending : ℕ) → Gateway
 offers phase ending = gateway phase ending (text 2) 32 33 0x1234
 
@@ -44,7 +44,7 @@ starts =
     (text 2, 32, content, false, record { number = 0; gateway = gateway 0 0 (text 2) 32 33 0x0000 }) ∷
     (text 2, 32, content, true, record { number = 0; gateway = gateway 0 0 (text 2) 32 33 0x7281 }) ∷
     -- 17, 18, 19 in their order
-    ([], 31, [], true, record { number = 17; gateway = gateway 0 0 (zeros 16) 0 0 0 }) ∷
+    (noText, 31, [], true, record { number = 17; gateway = gateway 0 0 (zeros 16) 0 0 0 }) ∷
     (text 2, 31, [], true, record { number = 18; gateway = gateway 0 0 (zeros 16) 0 0 0 }) ∷
     (text 2, 32, [], true, record { number = 19; gateway = gateway 0 0 (zeros 16) 0 0 0 }) ∷
     []
@@ -56,7 +56,7 @@ kept =
     (gateway 4 5 (text 2) 500 32767500 65535, true) ∷
     (gateway 5 0 (text 2) 32 33 0, false) ∷
     (gateway 4 6 (text 2) 32 33 0, false) ∷
-    (gateway 0 0 [] 32 33 0, false) ∷
+    (gateway 0 0 noText 32 33 0, false) ∷
     (gateway 0 0 (text 2) 31 33 0, false) ∷
     (gateway 0 0 (text 2) 501 33 0, false) ∷
     (gateway 0 0 (text 2) 32 0 0, false) ∷
@@ -121,21 +121,34 @@ steps =
     (4, resultReport 0x01 (text 2), 0 ∷ 4 ∷ 0 ∷ 24 ∷ 0x80 ∷ []) ∷
     []
 
--- phase, message; the record after it: all but phase and ending number stay
-abbrev pub records : List (ℕ × GatewayMessage × Gateway)
-records =
-    (0, queryReply 0x00 (text 1), gateway 1 0 (text 2) 32 33 0x1234) ∷
-    (3, executeReply 0x04, gateway 4 4 (text 2) 32 33 0x1234) ∷
+-- a reply buffer, and a call's whole answer: what no rule names stays
+abbrev fives : ℕ → List ℕ
+fives n = replicate n 0x55
+
+abbrev after : (number length : ℕ) → Gateway → List ℕ → After
+after number length g reply = record { number = number; length = length; gateway = g; reply = reply }
+
+-- 22 answered 80
+abbrev declined : List ℕ
+declined = 0xFF ∷ 0xFE ∷ 0x01 ∷ 0x16 ∷ 0x14 ∷ 0x86 ∷ 0x00 ∷ 0x01 ∷ 0x80 ∷ []
+
+-- phase, message; refused, moved on, ended, replied
+abbrev pub answers : List (ℕ × GatewayMessage × After)
+answers =
+    (1, queryReply 0x00 (text 1), after 9 0 (gateway 1 0 (text 2) 32 33 0x1234) (fives 511)) ∷
+    (0, queryReply 0x00 (text 1), after 0 0 (gateway 1 0 (text 2) 32 33 0x1234) (fives 511)) ∷
+    (3, executeReply 0x04, after 0 0 (gateway 4 4 (text 2) 32 33 0x1234) (fives 511)) ∷
+    (0, downloadReport 0x00, after 0 9 (gateway 0 0 (text 2) 32 33 0x1234) (declined ++ fives 502)) ∷
     []
 
--- asked: phase; number, and the message's code and data
+-- asked: phase; number, length, and the message's code and data
 abbrev pub asked : List (ℕ × List ℕ)
 asked =
-    (0, 0 ∷ 19 ∷ []) ∷
-    (1, 0 ∷ 20 ∷ (text 2 ++ (0x00 ∷ 0x20 ∷ 0x00 ∷ 0x02 ∷ 0x12 ∷ 0x34 ∷ []))) ∷
-    (2, 9 ∷ []) ∷
-    (3, 0 ∷ 23 ∷ []) ∷
-    (4, 9 ∷ []) ∷
+    (0, 0 ∷ 8 ∷ 19 ∷ []) ∷
+    (1, 0 ∷ 30 ∷ 20 ∷ (text 2 ++ (0x00 ∷ 0x20 ∷ 0x00 ∷ 0x02 ∷ 0x12 ∷ 0x34 ∷ []))) ∷
+    (2, 9 ∷ 0 ∷ []) ∷
+    (3, 0 ∷ 8 ∷ 23 ∷ []) ∷
+    (4, 9 ∷ 0 ∷ []) ∷
     []
 
 -- refusals of a message in their order, each bad in all that follows: length of the reply buffer, record, package, whether upgrade is
@@ -164,7 +177,7 @@ asking =
     []
 
 abbrev pub answerOf : Sent → List ℕ
-answerOf s = s .number ∷ spoken (s .length) (s .buffer)
+answerOf s = s .number ∷ s .length ∷ spoken (s .length) (s .buffer)
 
 pub record GatewayCases : Type 0 where
   pub total : Agree (λ (r : ℕ × ℕ × ℕ). totalOf (r .0) (r .1)) (λ r. r .2) totals
@@ -172,7 +185,7 @@ pub record GatewayCases : Type 0 where
   pub start : Agree (λ (r : List ℕ × ℕ × List ℕ × Bool × Started). startOf (r .0) (r .1) (r .2) (r .3)) (λ r. r .4) starts
   pub record-is : Agree (λ (r : Gateway × Bool). recordOk (r .0)) (λ r. r .1) kept
   pub step : Agree (λ (r : ℕ × GatewayMessage × List ℕ). outcome (handle (offers (r .0) 0) content (zeros 511) (found (r .1)))) (λ r. r .2) steps
-  pub change : Agree (λ (r : ℕ × GatewayMessage × Gateway). (handle (offers (r .0) 0) content (zeros 511) (found (r .1))) .gateway) (λ r. r .2) records
+  pub answer : Agree (λ (r : ℕ × GatewayMessage × After). handle (offers (r .0) 0) content (fives 511) (found (r .1))) (λ r. r .2) answers
   pub ask : Agree (λ (r : ℕ × List ℕ). answerOf (nextMessageOf (offers (r .0) 0) content (zeros 511))) (λ r. r .1) asked
   pub give-order :
       Agree (λ (r : ℕ × Gateway × List ℕ × Bool × List ℕ × ℕ). (receiveOf (r .1) (r .2) (zeros (r .0)) (r .3) true (r .4)) .number) (λ r. r .5) given

@@ -7,7 +7,7 @@ use lib.ListN.{length}
 use Rattle.basis.specs.Bytes.{same}
 use Rattle.device_record.specs.Record.{mapBytes}
 use Rattle.gateway.specs.Record.{totalOf}
-use Rattle.host.specs.Exports.{fact, textOf}
+use Rattle.pcp.specs.Exports.{fact, textOf}
 use Rattle.upgrade.specs.Calls.{DeviceCall, given, asked, installed, GatewayCall, Call, atDevice, atGateway, Ends, next}
 use Rattle.upgrade.specs.Records.{DeviceEnd, deviceSays, deviceNumber, gatewaySays, records, World}
 use Rattle.upgrade.specs.Demand3.{deviceThen, start}

@@ -6,7 +6,7 @@ use mathlib.Core.List.{List, [], map}
 use lib.ListN.{length}
 use Rattle.device_record.specs.Record.{newOf}
 use Rattle.layout.specs.Layout.{deviceLength}
-use Rattle.host.specs.Exports.{fact, textOf}
+use Rattle.pcp.specs.Exports.{fact, textOf}
 use Rattle.upgrade.specs.Fold.{after}
 use Rattle.upgrade.specs.Calls.{DeviceCall}
 use Rattle.upgrade.specs.Records.{DeviceEnd, deviceNext, deviceRecords}

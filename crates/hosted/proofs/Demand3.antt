@@ -10,9 +10,9 @@ use Rattle.device_record.specs.Record.{newOf}
 use Rattle.gateway.specs.declared.Gateway.{Gateway}
 use Rattle.gateway.specs.Record.{startOf}
 use Rattle.layout.specs.Layout.{deviceLength, gatewayAt, gatewayLength}
-use Rattle.host.specs.Exports.{fact, textOf, Left, deviceNewOf, gatewayStartOf}
-use Rattle.host.proofs.Calls.{long-enough}
-use Rattle.host.proofs.Carrying.{records-carried}
+use Rattle.pcp.specs.Exports.{fact, textOf, Left, deviceNewOf, gatewayStartOf}
+use Rattle.pcp.proofs.Calls.{long-enough}
+use Rattle.pcp.proofs.Carrying.{records-carried}
 use Rattle.upgrade.specs.Fold.{after, Allowed}
 use Rattle.upgrade.specs.Calls.{given, asked, installed, GatewayCall, Call, atDevice, atGateway, next, May}
 use Rattle.upgrade.specs.Records.{DeviceEnd, deviceNext, gatewayNext, records, World}

@@ -10,12 +10,12 @@ use Rattle.codec.specs.Codec.{Sent}
 use Rattle.device.specs.Rules as device
 use Rattle.gateway.specs.Rules as gateway
 use Rattle.layout.specs.Layout.{kept, deviceAt, deviceLength, gatewayAt, gatewayLength}
-use Rattle.host.specs.Exports.{fact, packed, Left, Asked, DeviceGiven, GatewayGiven, deviceKept, gatewayKept, deviceReceiveOf, deviceNextMessageOf, deviceInstallFinishedOf, gatewayReceiveOf, gatewayNextMessageOf}
-use Rattle.host.specs.Exports as exports
-use Rattle.host.specs.Boundary.{numberIn, lengthIn}
-use Rattle.host.proofs.Calls.{long-enough}
-use Rattle.host.proofs.Refusals.{device-number, device-ask-number, gateway-number, gateway-ask-number}
-use Rattle.host.proofs.Carrying.{records-carried}
+use Rattle.pcp.specs.Exports.{fact, packed, Left, Asked, DeviceGiven, GatewayGiven, deviceKept, gatewayKept, deviceReceiveOf, deviceNextMessageOf, deviceInstallFinishedOf, gatewayReceiveOf, gatewayNextMessageOf}
+use Rattle.pcp.specs.Exports as exports
+use Rattle.pcp.specs.Boundary.{numberIn, lengthIn}
+use Rattle.pcp.proofs.Calls.{long-enough}
+use Rattle.pcp.proofs.Refusals.{device-number, device-ask-number, gateway-number, gateway-ask-number}
+use Rattle.pcp.proofs.Carrying.{records-carried}
 use Rattle.upgrade.specs.Calls.{aired, DeviceCall, given, asked, installed, GatewayCall, Call, atDevice, atGateway, next}
 use Rattle.upgrade.specs.Records.{deviceNext, deviceSays, deviceNumber, gatewayNext, gatewaySays, records}
 use Rattle.hosted.specs.Hosts.{DeviceHost, deviceHostNext, deviceHostSays, deviceHostNumber, deviceSeen, gatewayHostNext, gatewayHostSays, hosts, Hosts, Fitting, seen, deviceCallAs, gatewayCallAs, callAs, HostedRuns}

@@ -10,7 +10,7 @@ use Rattle.device_record.specs.declared.Device.{Device}
 use Rattle.device_record.specs.Record.{idle, mapBytes}
 use Rattle.gateway.specs.Record.{offer, totalOf}
 use Rattle.layout.specs.Layout.{deviceAt, deviceLength, gatewayAt, gatewayLength}
-use Rattle.host.specs.Exports.{fact, textOf, deviceNewOf, gatewayStartOf}
+use Rattle.pcp.specs.Exports.{fact, textOf, deviceNewOf, gatewayStartOf}
 use Rattle.upgrade.specs.Fold.{after}
 use Rattle.upgrade.specs.Calls.{DeviceCall, GatewayCall}
 use Rattle.upgrade.specs.Records.{World}
@@ -90,7 +90,8 @@ HostedInstallLength = (b : HostedBefore) → HostedReady b → InstallLengthOf (
 
 -- ---- the clean run
 
--- The device starts Idle with another version, and all buffers are long enough. What a call is lent may depend on all that its host sees.
+-- The device starts Idle with another version, and all buffers are long enough. What a call is lent may depend
+-- on both records, image and map, and what is on the air.
 pub record HostedCleanStart (b : HostedBefore) (deviceReply gatewayReply : World → List ℕ) : Type 0 where
   pub ready : HostedReady b
   pub device-idle : deviceAt (deviceHostThen b .bytes) .phase ≡ idle

@@ -16,6 +16,10 @@ use Rattle.message.specs.Recognition.{codeHolds, recognition}
 abbrev pub text : ℕ → List ℕ
 text n = 0x56 ∷ (0x30 + n) ∷ replicate 14 0x00
 
+-- 16 bytes that are no text: the first may not stand in one
+abbrev pub noText : List ℕ
+noText = 0x1F ∷ replicate 15 0x00
+
 -- a byte, so many times, and then 00 so many times
 abbrev padded : ℕ → ℕ → ℕ → List ℕ
 padded b n zeros = replicate n b ++ replicate zeros 0x00
@@ -64,18 +68,18 @@ fields =
     (deviceValid query, true) ∷
     (deviceValid execute, true) ∷
     (deviceValid (announce (record { version = text 1; size = 32; total = 1; code = 0 })), true) ∷
-    (deviceValid (announce (record { version = []; size = 32; total = 1; code = 0 })), false) ∷
+    (deviceValid (announce (record { version = noText; size = 32; total = 1; code = 0 })), false) ∷
     (deviceValid (announce (record { version = text 1; size = 31; total = 1; code = 0 })), false) ∷
     (deviceValid (announce (record { version = text 1; size = 32; total = 0; code = 0 })), false) ∷
     (deviceValid (announce (record { version = text 1; size = 32; total = 1; code = 65536 })), false) ∷
     (deviceValid (fragment 0x00 0 (replicate 500 0x41)), true) ∷
     (deviceValid (fragment 0x00 0 (replicate 501 0x41)), false) ∷
     (deviceValid (fragment 0x80 65536 []), false) ∷
-    (gatewayValid (queryReply 0x00 []), false) ∷
+    (gatewayValid (queryReply 0x00 noText), false) ∷
     (gatewayValid (fragmentRequest (text 1) 65535), true) ∷
-    (gatewayValid (fragmentRequest [] 0), false) ∷
+    (gatewayValid (fragmentRequest noText 0), false) ∷
     (gatewayValid (fragmentRequest (text 1) 65536), false) ∷
-    (gatewayValid (resultReport 0x00 []), false) ∷
+    (gatewayValid (resultReport 0x00 noText), false) ∷
     []
 
 -- each message: its code, and then its data
@@ -104,6 +108,7 @@ sentToGateway =
 abbrev pub recognised : List (Bool × Bool × List ℕ × ℕ)
 recognised =
     (true, true, 0xFF ∷ 0xFE ∷ 0x01 ∷ 0x13 ∷ 0x4C ∷ 0x9A ∷ 0x00 ∷ 0x00 ∷ [], 0) ∷  -- 19 query, as published
+    (true, true, 0xFF ∷ 0xFE ∷ 0x01 ∷ 0x14 ∷ 0xD7 ∷ 0x68 ∷ 0x00 ∷ 0x01 ∷ 0x00 ∷ [], 0) ∷  -- 20 answer, as published
     (false, false, [], 1) ∷
     (true, false, [], 2) ∷
     (true, true, 0x00 ∷ 0xFE ∷ 0x02 ∷ 0x13 ∷ [], 3) ∷

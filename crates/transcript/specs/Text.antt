@@ -10,7 +10,7 @@ space = 0x20
 abbrev pub newline : ℕ
 newline = 0x0A
 
--- the last figures of a number, at most so many, with no 0 before them
+-- a number in figures, with no 0 before them; of a longer number than so many figures, its last
 unfoldable pub figures : (most n : ℕ) → List ℕ
 figures zero n = []
 figures (suc most) n = pick (ltb n 10) ((0x30 + n) ∷ []) (figures most (n / 10) ++ ((0x30 + n % 10) ∷ []))

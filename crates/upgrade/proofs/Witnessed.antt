@@ -24,7 +24,7 @@ use Rattle.upgrade.specs.Witnesses.{new, toldDevice, askedDevice, toldGa
 use Rattle.upgrade.specs.Demand3.{deviceThen, gatewayThen, heldThen, Ready, start}
 
 -- the one fragment held is the package's
-first-only : (index : ℕ) (bytes : List ℕ) → List·Memᴰ {A = ℕ × List ℕ} (index, bytes) ((0, take 32 content) ∷ []) → bytes ≡ gateway-record.fragmentOf content 32 index
+pub first-only : (index : ℕ) (bytes : List ℕ) → List·Memᴰ {A = ℕ × List ℕ} (index, bytes) ((0, take 32 content) ∷ []) → bytes ≡ gateway-record.fragmentOf content 32 index
 unfolding gateway-record.fragmentOf
 first-only index bytes m =
     let same-pair : _≡_ {A = ℕ × List ℕ} (index, bytes) (0, take 32 content) = List·Memᴰ·eq-of-singleton m in

@@ -86,7 +86,8 @@ module _ (e : Ends) where
       abbrev pub Demand3Of : Type 0
       Demand3Of = Always (λ calls. ExecutedImage calls × (Success (reached calls) → InstalledBefore calls))
 
-      -- the halves joined, as a customer says it: success is recorded only after the package stood in the image and was installed
+      -- the halves joined, as a customer says it: success is recorded only after Execute was answered 00 with the package in the image, and an
+      -- installer's end with 00 after that
       abbrev pub UpgradeOf : Type 0
       UpgradeOf = Always (λ calls. Success (reached calls) → UpgradedBefore calls)
 

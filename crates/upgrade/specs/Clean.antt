@@ -18,8 +18,8 @@ use Rattle.upgrade.specs.Demand3.{Before, Ready, deviceThen, start}
 abbrev pub Reached : (e : Ends) (start here : Both e) → Type 0
 Reached e start here = (calls : List (Call (e .Fact))) × Allowed (next e) May start calls × (here ≡ reached e start calls)
 
--- Both facts are given as `affirmed`, which means yes. A call made in the state w is lent the reply buffer `deviceReply w` or `gatewayReply w`: each call may get
--- another.
+-- Both facts are given as `affirmed`: true over records, any byte that means yes over hosts. A call made in the state w is lent the reply
+-- buffer `deviceReply w` or `gatewayReply w`: each call may get another.
 module _ (e : Ends) (affirmed : e .Fact) (deviceReply gatewayReply : Both e → List ℕ) where
   -- messages that arrive at an end; condition 0
   unfoldable pub arriveAtDevice : Both e → List (List ℕ) → Both e

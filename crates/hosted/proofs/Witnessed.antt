@@ -1,0 +1,64 @@
+-- The witnesses of the premises over hosts: all by computation. Assumes nothing.
+use Prim.Native.Nat.{ℕ}
+use native.Mathlib.Omega.{arith}
+use mathlib.Core.Path.{refl}
+use mathlib.Core.List.{List, List·Memᴰ·not-nil}
+use Rattle.basis.specs.Choice.{pick, refusal, oneOf}
+use Rattle.basis.specs.Bytes.{part, same, over, patched}
+use Rattle.checksum.specs.Check.{doubled, entryOf, step, register, checkOf, zeroed, messageCheck}
+use Rattle.message.specs.Limits.{sizeOk, totalOk, isWord}
+use Rattle.message.specs.Version.{printable, front, allZero, goodVersion}
+use Rattle.message.specs.Recognition.{startHolds, versionByteHolds, codeHolds, checkHolds, lengthHolds, recognition}
+use Rattle.message.specs.Messages.{deviceCode, deviceData, fragmentOk, deviceValid, deviceFields, gatewayCode, gatewayData, installCode, gatewayValid, gatewayFields}
+use Rattle.codec.specs.Codec.{sealed, frame, bytesOf, readOf, writeOf, said}
+use Rattle.bitmap.specs.Bitmap.{marked, mark, cleared, missingFrom, lowestMissing}
+use Rattle.device_record.specs.Record as device-record
+use Rattle.device.specs.Rules as device
+use Rattle.gateway.specs.Record as gateway-record
+use Rattle.gateway.specs.Rules as gateway
+use Rattle.layout.specs.Layout.{kept, deviceBytes, deviceAt, gatewayBytes, gatewayAt}
+use Rattle.pcp.specs.Exports.{textOf, deviceNewOf, deviceReceiveOf, gatewayStartOf, gatewayReceiveOf}
+use Rattle.upgrade.specs.Records.{deviceNext, gatewayNext}
+use Rattle.upgrade.specs.Held.{heldBy, heldNext, heldAfter}
+use Rattle.upgrade.proofs.Witnessed.{first-only}
+use Rattle.hosted.specs.Hosts.{deviceHostNext, gatewayHostNext}
+use Rattle.hosted.specs.Witnesses.{HostedWitnesses}
+
+pub hosted-witnesses : HostedWitnesses
+unfolding pick refusal oneOf part same over patched doubled entryOf step register checkOf zeroed messageCheck sizeOk totalOk isWord printable front
+    allZero goodVersion startHolds versionByteHolds codeHolds checkHolds lengthHolds recognition deviceCode deviceData fragmentOk deviceValid
+    deviceFields gatewayCode gatewayData installCode gatewayValid gatewayFields sealed frame bytesOf readOf writeOf said marked mark cleared
+    missingFrom lowestMissing device-record.holding device-record.conditionOk device-record.newOf device-record.downloadOk
+    device-record.recordOk device-record.mapBytes device-record.roomOk device.begin device.store device.onQuery device.onAnnounce
+    device.onFragment device.onDownloadReply device.onExecute device.onResultReply device.handle device.receiveOf device.wanted
+    device.nextMessageOf device.installFinishedOf device.announceResult device.sameFields device.resumes device.fragmentLength device.passes
+    device.completion device.executeResult gateway-record.totalOf gateway-record.lengthOk gateway-record.fragmentOf gateway-record.startOf
+    gateway-record.recordOk gateway.asked gateway.serving gateway.fragmentReply gateway.onQueryReply gateway.onAnnounceReply
+    gateway.onFragmentRequest gateway.onDownloadReport gateway.onExecuteReply gateway.onResultReport gateway.handle gateway.receiveOf
+    gateway.wanted gateway.nextMessageOf deviceNext gatewayNext heldBy heldNext heldAfter deviceNewOf deviceReceiveOf gatewayStartOf
+    gatewayReceiveOf textOf kept deviceBytes deviceAt gatewayBytes gatewayAt deviceHostNext gatewayHostNext
+hosted-witnesses =
+    record {
+      clean = record {
+        ready = record {
+          device-made = record { fits = omega arith; made = refl };
+          gateway-fits = omega arith;
+          gateway-started = refl;
+          offering = refl;
+          held = λ _ _ index bytes m. absurd (List·Memᴰ·not-nil m);
+        };
+        device-idle = refl;
+        other-version = refl;
+        image-room = omega arith;
+        map-room = omega arith;
+        device-room = λ _. omega arith;
+        gateway-room = λ _. omega arith;
+      };
+      ready = record {
+        device-made = record { fits = omega arith; made = refl };
+        gateway-fits = omega arith;
+        gateway-started = refl;
+        offering = refl;
+        held = λ _ _ index bytes m. first-only index bytes m;
+      };
+    }

@@ -1,0 +1,202 @@
+-- The record that a call left is the one that the next call finds. Assumes nothing.
+use Prim.Native.Nat.{ℕ, _≤_}
+use native.Mathlib.Omega.{arith}
+use mathlib.Core.Path.{_≡_, refl, sym, _∙_, ap, subst}
+use mathlib.Core.Bool.{Bool, true, false, _&&_, true≢false}
+use mathlib.Core.List.{List}
+use lib.Dec.{eqb, leb}
+use lib.ListN.{length, replicate}
+use borrow.Author.Tests.{eqb-true, eq-eqb, le-leb}
+use Rattle.basis.specs.Choice.{pick}
+use Rattle.basis.specs.Bytes.{over}
+use Rattle.basis.proofs.Choosing.{by-cases, and-left, and-both}
+use Rattle.basis.proofs.Lists.{length-part}
+use Rattle.message.specs.Version.{goodVersion}
+use Rattle.message.specs.Messages.{DeviceMessage, query, announce, fragment, downloadReply, execute, resultReply, deviceValid, GatewayMessage, queryReply, announceReply, fragmentRequest, downloadReport, executeReply, resultReport, Table, Reading, found, refused, toDevice, toGateway}
+use Rattle.codec.specs.Codec.{readOf}
+use Rattle.codec.proofs.RoundTrip.{device-round-trip}
+use Rattle.device_record.specs.declared.Device.{Device}
+use Rattle.device_record.specs.declared.Made.{Made}
+use Rattle.device_record.specs.Record.{newOf}
+use Rattle.device.specs.declared.Finished.{Finished}
+use Rattle.device.specs.Rules as device
+use Rattle.gateway.specs.declared.Gateway.{Gateway}
+use Rattle.gateway.specs.declared.Started.{Started}
+use Rattle.gateway.specs.Record.{startOf}
+use Rattle.gateway.specs.Rules as gateway
+use Rattle.layout.specs.Layout.{kept, deviceAt, deviceBytes, deviceLength, gatewayAt, gatewayBytes, gatewayLength}
+use Rattle.layout.proofs.Layouts.{kept-new}
+use Rattle.layout.specs.Identity.{DeviceTexts}
+use Rattle.layout.proofs.Identity.{identity}
+use Rattle.pcp.specs.Exports.{fact, textOf, Left, DeviceGiven, GatewayGiven, deviceNewOf, deviceReceiveOf, deviceInstallFinishedOf, deviceKept, gatewayKept, gatewayStartOf, gatewayReceiveOf}
+use Rattle.pcp.specs.Boundary.{Carried}
+use Rattle.pcp.proofs.Calls.{long-enough}
+use Rattle.pcp.proofs.Refusals.{DeviceOutcome, device-outcome, GatewayOutcome, gateway-outcome, done, declined}
+
+-- ---- version texts of 16 bytes stay so
+
+good-length : (v : List ℕ) → goodVersion v ≡ true → length v ≡ 16
+unfolding goodVersion
+good-length v e = eqb-true (length v) 16 (and-left (eqb (length v) 16) _ e)
+
+text-length : (v : List ℕ) → length (textOf v) ≡ 16
+unfolding textOf
+text-length v = by-cases (λ (l : List ℕ). length l ≡ 16) (λ _. length-part v 0 16) (λ _. refl)
+
+abbrev Valid : Reading DeviceMessage → Type 0
+Valid (found m) = deviceValid m ≡ true
+Valid (refused n) = Unit {0}
+
+read-valid : (supported pcp : Bool) (bytes : List ℕ) → Valid (readOf toDevice supported pcp bytes)
+read-valid supported pcp bytes = at (readOf toDevice supported pcp bytes) refl
+  where
+    at : (r : Reading DeviceMessage) → readOf toDevice supported pcp bytes ≡ r → Valid r
+    at (found m) e = device-round-trip .read-valid supported pcp bytes m e
+    at (refused n) e = tt
+
+module _ (d : Device) (image map reply : List ℕ) (s : DeviceTexts d) where
+  P : device.After → Type 0
+  P a = DeviceTexts (a .device)
+
+  -- the same two texts
+  same : (e : Device) → e .running ≡ d .running → e .fields ≡ d .fields → DeviceTexts e
+  same e r f = record { running = rw r (s .running); target = rw f (s .target) }
+
+  handled-texts : (condition : ℕ) (r : Reading DeviceMessage) → Valid r → P (device.handle d image map reply condition r)
+  unfolding P device.handle device.onQuery device.onAnnounce device.begin device.onFragment device.store device.onDownloadReply device.onExecute device.onResultReply deviceValid
+  handled-texts condition (refused n) v = s
+  handled-texts condition (found query) v = s
+  handled-texts condition (found (announce f)) v =
+      by-cases P
+      (λ _. by-cases P (λ _. s)
+      (λ _. record { running = s .running; target = good-length (f .version) (and-left (goodVersion (f .version)) _ v) }))
+      (λ _. s)
+  handled-texts condition (found (fragment result index bytes)) v =
+      by-cases P
+      (λ _. by-cases P (λ _. same _ refl refl)
+      (λ _. by-cases P (λ _. s)
+      (λ _. by-cases P (λ _. s)
+      (λ _. by-cases P (λ _. by-cases P (λ _. s) (λ _. same _ refl refl)) (λ _. s)))))
+      (λ _. s)
+  handled-texts condition (found (downloadReply result)) v =
+      by-cases P (λ _. same _ refl refl) (λ _. by-cases P (λ _. same _ refl refl) (λ _. s))
+  handled-texts condition (found execute) v = by-cases DeviceTexts (λ _. same _ refl refl) (λ _. s)
+  handled-texts condition (found (resultReply result)) v = by-cases P (λ _. same _ refl refl) (λ _. s)
+
+  received-texts : (supported pcp : Bool) (condition : ℕ) (message : List ℕ) → DeviceTexts (device.receiveOf d image map reply supported pcp condition message .device)
+  unfolding P device.receiveOf
+  received-texts supported pcp condition message =
+      by-cases P (λ _. handled-texts condition (readOf toDevice supported pcp message) (read-valid supported pcp message)) (λ _. s)
+
+module _ (d : Device) where
+  finished-texts : DeviceTexts d → (code : ℕ) → DeviceTexts (device.installFinishedOf d code .device)
+  unfolding device.installFinishedOf
+  finished-texts s code =
+      by-cases (λ (f : Finished). DeviceTexts (f .device))
+      (λ _. record { running = by-cases (λ (v : List ℕ). length v ≡ 16) (λ _. s .target) (λ _. s .running); target = s .target })
+      (λ _. s)
+
+  -- a refusal gives the record back
+  finished-refused : (code : ℕ) → (device.installFinishedOf d code .number ≡ 0 → ⊥) → device.installFinishedOf d code .device ≡ d
+  unfolding device.installFinishedOf
+  finished-refused code =
+      by-cases (λ (f : Finished). (f .number ≡ 0 → ⊥) → f .device ≡ d) (λ _ h. absurd (h refl)) (λ _ _. refl)
+
+at-texts : (bytes : List ℕ) → DeviceTexts (deviceAt bytes)
+unfolding deviceAt
+at-texts bytes = record { running = length-part bytes 1 16; target = length-part bytes 17 16 }
+
+received-refused : (d : Device) (image map reply : List ℕ) (a : device.After) → DeviceOutcome d image map reply a → (a .number ≡ 0 → ⊥) → a .device ≡ d
+received-refused d image map reply a (done e) h = absurd (h e)
+received-refused d image map reply a (declined n small e) h = ap (λ (a : device.After). a .device) e
+
+-- ---- a record into its buffer and back
+
+module _ (n : ℕ) (bytes : List ℕ) where
+  not-zero : (room : ℕ) → room ≤ length bytes → (eqb n 0 && leb room (length bytes)) ≡ false → n ≡ 0 → ⊥
+  not-zero room h f z = true≢false (sym (and-both (eq-eqb n 0 z) (le-leb room (length bytes) h)) ∙ f)
+
+  carried : (e : Device) → deviceLength ≤ length bytes → DeviceTexts e → ((n ≡ 0 → ⊥) → e ≡ deviceAt bytes) → deviceAt (deviceKept bytes n e) ≡ e
+  unfolding kept
+  carried e room s h =
+      by-cases (λ (l : List ℕ). deviceAt l ≡ e) (λ _. identity .device-kept e bytes s)
+      (λ f. sym (h (not-zero deviceLength room f)))
+
+  gateway-carried : (e : Gateway) → gatewayLength ≤ length bytes → length (e .version) ≡ 16 → ((n ≡ 0 → ⊥) → e ≡ gatewayAt bytes)
+      → gatewayAt (gatewayKept bytes n e) ≡ e
+  unfolding kept
+  gateway-carried e room s h =
+      by-cases (λ (l : List ℕ). gatewayAt l ≡ e) (λ _. identity .gateway-kept e bytes s) (λ f. sym (h (not-zero gatewayLength room f)))
+
+-- ---- the gateway's text stays
+
+module _ (g : Gateway) (content reply : List ℕ) where
+  Q : gateway.After → Type 0
+  Q a = a .gateway .version ≡ g .version
+
+  handled-version : (r : Reading GatewayMessage) → Q (gateway.handle g content reply r)
+  unfolding Q gateway.handle gateway.onQueryReply gateway.onAnnounceReply gateway.onFragmentRequest gateway.onDownloadReport gateway.onExecuteReply gateway.onResultReport gateway.asked
+  handled-version (refused n) = refl
+  handled-version (found (queryReply result version)) =
+      by-cases Q (λ _. by-cases (λ (h : Gateway). h .version ≡ g .version) (λ _. refl) (λ _. refl)) (λ _. refl)
+  handled-version (found (announceReply result)) =
+      by-cases Q (λ _. by-cases (λ (h : Gateway). h .version ≡ g .version) (λ _. refl) (λ _. refl)) (λ _. refl)
+  handled-version (found (fragmentRequest version index)) = refl
+  handled-version (found (downloadReport result)) =
+      by-cases Q (λ _. by-cases (λ (h : Gateway). h .version ≡ g .version) (λ _. refl) (λ _. refl)) (λ _. by-cases Q (λ _. refl) (λ _. refl))
+  handled-version (found (executeReply result)) =
+      by-cases Q (λ _. by-cases (λ (h : Gateway). h .version ≡ g .version) (λ _. refl) (λ _. refl)) (λ _. refl)
+  handled-version (found (resultReport result version)) = by-cases Q (λ _. refl) (λ _. refl)
+
+  received-version : (supported pcp : Bool) (message : List ℕ) → gateway.receiveOf g content reply supported pcp message .gateway .version ≡ g .version
+  unfolding Q gateway.receiveOf
+  received-version supported pcp message = by-cases Q (λ _. handled-version (readOf toGateway supported pcp message)) (λ _. refl)
+
+  gateway-refused : (a : gateway.After) → GatewayOutcome g content reply a → (a .number ≡ 0 → ⊥) → a .gateway ≡ g
+  gateway-refused a (done e) h = absurd (h e)
+  gateway-refused a (declined n small e) h = ap (λ (a : gateway.After). a .gateway) e
+
+gateway-at-text : (bytes : List ℕ) → length (gatewayAt bytes .version) ≡ 16
+unfolding gatewayAt
+gateway-at-text bytes = length-part bytes 2 16
+
+-- ---- every call
+
+made-texts : (version : List ℕ) → length version ≡ 16 → DeviceTexts (newOf version .device)
+unfolding newOf
+made-texts version e =
+    by-cases (λ (m : Made). DeviceTexts (m .device)) (λ _. record { running = e; target = e }) (λ _. record { running = refl; target = refl })
+
+started-text : (version : List ℕ) (size : ℕ) (content : List ℕ) (checked : Bool) → length version ≡ 16
+    → length (startOf version size content checked .gateway .version) ≡ 16
+unfolding startOf
+started-text version size content checked e =
+    by-cases (λ (s : Started). length (s .gateway .version) ≡ 16) (λ _. e) (λ _. refl)
+
+-- where there is room, a call is not refused with 64
+with-room : {A : Type 0} (P : A → Type 0) (need : ℕ) (bytes : List ℕ) (a b : A) → need ≤ length bytes → P a → P (pick (leb need (length bytes)) a b)
+with-room P need bytes a b h p = subst P (long-enough need bytes a b h) p
+
+pub records-carried : Carried
+unfolding deviceNewOf deviceReceiveOf deviceInstallFinishedOf gatewayStartOf gatewayReceiveOf
+records-carried =
+    record {
+      device-new = λ bytes version room e.
+          with-room (λ (k : Left). deviceAt (k .bytes) ≡ newOf (textOf version) .device) deviceLength bytes _ _ room
+          (carried _ bytes _ room (made-texts (textOf version) (text-length version)) (λ h. absurd (h e)));
+      device-receive = λ bytes image map reply supported pcp condition message room.
+          with-room (λ (g : DeviceGiven). deviceAt (g .bytes) ≡ device.receiveOf (deviceAt bytes) image map reply (fact supported) (fact pcp) condition message .device) deviceLength bytes _ _ room
+          (carried _ bytes _ room (received-texts (deviceAt bytes) image map reply (at-texts bytes) _ _ condition message)
+          (received-refused (deviceAt bytes) image map reply _ (device-outcome (deviceAt bytes) image map reply _ _ condition message)));
+      device-install-finished = λ bytes code room.
+          with-room (λ (k : Left). deviceAt (k .bytes) ≡ device.installFinishedOf (deviceAt bytes) code .device) deviceLength bytes _ _ room
+          (carried _ bytes _ room (finished-texts (deviceAt bytes) (at-texts bytes) code)
+          (finished-refused (deviceAt bytes) code));
+      gateway-start = λ bytes version size content checked room e.
+          with-room (λ (k : Left). gatewayAt (k .bytes) ≡ startOf (textOf version) size content (fact checked) .gateway) gatewayLength bytes _ _ room
+          (gateway-carried _ bytes _ room (started-text (textOf version) size content _ (text-length version)) (λ h. absurd (h e)));
+      gateway-receive = λ bytes content reply supported pcp message room.
+          with-room (λ (g : GatewayGiven). gatewayAt (g .bytes) ≡ gateway.receiveOf (gatewayAt bytes) content reply (fact supported) (fact pcp) message .gateway) gatewayLength bytes _ _ room
+          (gateway-carried _ bytes _ room (ap length (received-version (gatewayAt bytes) content reply _ _ message) ∙ gateway-at-text bytes)
+          (gateway-refused (gatewayAt bytes) content reply _ (gateway-outcome (gatewayAt bytes) content reply _ _ message)));
+    }

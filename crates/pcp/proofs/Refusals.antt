@@ -1,0 +1,248 @@
+-- Demand 1 at the boundary: any number but 0 leaves every buffer as it was. Assumes nothing.
+use Prim.Native.Nat.{ℕ, _+_, _*_, _/_, _%_, _≤_, _<_}
+use native.Mathlib.Omega.{arith}
+use mathlib.Core.Path.{_≡_, refl, sym, _∙_, ap, subst}
+use mathlib.Core.Bool.{Bool}
+use mathlib.Core.List.{List, [], _∷_}
+use lib.Dec.{eqb}
+use lib.ListN.{length}
+use Rattle.basis.specs.Choice.{pick, refusal}
+use Rattle.basis.proofs.Choosing.{by-cases, refusal-among}
+use Rattle.message.specs.Messages.{DeviceMessage, query, announce, fragment, downloadReply, execute, resultReply, GatewayMessage, queryReply, announceReply, fragmentRequest, downloadReport, executeReply, resultReport, Table, Reading, found, refused, toDevice, toGateway}
+use Rattle.codec.specs.Codec.{Sent, readOf, said}
+use Rattle.codec.specs.Demand2.{RoundTrips}
+use Rattle.codec.proofs.RoundTrip.{device-round-trip, gateway-round-trip}
+use Rattle.device_record.specs.declared.Device.{Device}
+use Rattle.device.specs.declared.Finished.{Finished}
+use Rattle.device.specs.Rules as device
+use Rattle.gateway.specs.declared.Gateway.{Gateway}
+use Rattle.gateway.specs.Rules as gateway
+use Rattle.layout.specs.Layout.{kept, deviceAt, deviceBytes, deviceLength, gatewayAt, gatewayBytes, gatewayLength}
+use Rattle.layout.proofs.Layouts.{kept-refused}
+use Rattle.pcp.specs.Exports
+use Rattle.pcp.specs.Exports.{packed, Left, Asked, DeviceGiven, GatewayGiven, asked, deviceNewOf, deviceReceiveOf, deviceNextMessageOf, deviceInstallFinishedOf, deviceKept, gatewayKept, gatewayStartOf, gatewayReceiveOf, gatewayNextMessageOf}
+use Rattle.pcp.specs.Boundary.{numberIn, lengthIn, Refused, Demand1}
+
+-- ---- refusals have numbers below 256
+
+abbrev Small : {M : Type 0} → Reading M → Type 0
+Small (found m) = Unit {0}
+Small (refused n) = n < 256
+
+read-small : (t : Table) → RoundTrips t → (supported pcp : Bool) (bytes : List ℕ) → Small (readOf t supported pcp bytes)
+read-small t trip supported pcp bytes = at (readOf t supported pcp bytes) refl
+  where
+    at : (r : Reading (t .Message)) → readOf t supported pcp bytes ≡ r → Small r
+    at (found m) e = tt
+    at (refused n) e = omega (arith, trip .refused-number supported pcp bytes n e)
+
+-- ---- a record that a refused call does not keep
+
+stays : (number room : ℕ) (new bytes : List ℕ) → Refused number → kept number room new bytes ≡ bytes
+stays number room new bytes h = kept-refused room new bytes number (λ e. h (omega arith))
+
+-- ---- a message is given
+
+module _ (d : Device) (image map reply : List ℕ) where
+  pub data DeviceOutcome (a : device.After) : Type 0 where
+    done : a .number ≡ 0 → DeviceOutcome a
+    declined : (n : ℕ) → n < 256 → a ≡ device.refuse d image map reply n → DeviceOutcome a
+
+  device-handled : (condition : ℕ) (r : Reading DeviceMessage) → Small r → DeviceOutcome (device.handle d image map reply condition r)
+  unfolding device.handle device.onQuery device.onAnnounce device.begin device.onFragment device.store device.onDownloadReply device.onExecute device.onResultReply
+  device-handled condition (refused n) small = declined n small refl
+  device-handled condition (found query) small = done refl
+  device-handled condition (found (announce f)) small =
+      by-cases DeviceOutcome (λ _. by-cases DeviceOutcome (λ _. done refl) (λ _. done refl)) (λ _. done refl)
+  device-handled condition (found (fragment result index bytes)) small =
+      by-cases DeviceOutcome
+      (λ _. by-cases DeviceOutcome (λ _. done refl)
+      (λ _. by-cases DeviceOutcome (λ _. done refl)
+      (λ _. by-cases DeviceOutcome (λ _. declined 10 (omega arith) refl)
+      (λ _. by-cases DeviceOutcome (λ _. by-cases DeviceOutcome (λ _. declined 12 (omega arith) refl) (λ _. done refl))
+      (λ _. declined 11 (omega arith) refl)))))
+      (λ _. declined 9 (omega arith) refl)
+  device-handled condition (found (downloadReply result)) small =
+      by-cases DeviceOutcome (λ _. done refl) (λ _. by-cases DeviceOutcome (λ _. done refl) (λ _. declined 9 (omega arith) refl))
+  device-handled condition (found execute) small = done refl
+  device-handled condition (found (resultReply result)) small = by-cases DeviceOutcome (λ _. done refl) (λ _. declined 9 (omega arith) refl)
+
+  pub device-outcome : (supported pcp : Bool) (condition : ℕ) (message : List ℕ)
+      → DeviceOutcome (device.receiveOf d image map reply supported pcp condition message)
+  unfolding device.receiveOf
+  device-outcome supported pcp condition message =
+      by-cases DeviceOutcome
+      (λ _. device-handled condition (readOf toDevice supported pcp message) (read-small toDevice device-round-trip supported pcp message))
+      (λ _. declined _ (refusal-among (λ n. n < 256) _ (omega arith) (omega arith)) refl)
+
+  pub device-number : (supported pcp : Bool) (condition : ℕ) (message : List ℕ)
+      → device.receiveOf d image map reply supported pcp condition message .number < 256
+  device-number supported pcp condition message = at _ (device-outcome supported pcp condition message)
+    where
+      at : (a : device.After) → DeviceOutcome a → a .number < 256
+      at a (done e) = omega arith
+      at a (declined n small e) = rw e small
+
+module _ (g : Gateway) (content reply : List ℕ) where
+  pub data GatewayOutcome (a : gateway.After) : Type 0 where
+    done : a .number ≡ 0 → GatewayOutcome a
+    declined : (n : ℕ) → n < 256 → a ≡ gateway.refuse g content reply n → GatewayOutcome a
+
+  gateway-handled : (r : Reading GatewayMessage) → Small r → GatewayOutcome (gateway.handle g content reply r)
+  unfolding gateway.handle gateway.onQueryReply gateway.onAnnounceReply gateway.onFragmentRequest gateway.onDownloadReport gateway.onExecuteReply gateway.onResultReport
+  gateway-handled (refused n) small = declined n small refl
+  gateway-handled (found (queryReply result version)) small = by-cases GatewayOutcome (λ _. done refl) (λ _. declined 9 (omega arith) refl)
+  gateway-handled (found (announceReply result)) small = by-cases GatewayOutcome (λ _. done refl) (λ _. declined 9 (omega arith) refl)
+  gateway-handled (found (fragmentRequest version index)) small = done refl
+  gateway-handled (found (downloadReport result)) small =
+      by-cases GatewayOutcome (λ _. done refl) (λ _. by-cases GatewayOutcome (λ _. done refl) (λ _. done refl))
+  gateway-handled (found (executeReply result)) small = by-cases GatewayOutcome (λ _. done refl) (λ _. declined 9 (omega arith) refl)
+  gateway-handled (found (resultReport result version)) small = by-cases GatewayOutcome (λ _. done refl) (λ _. done refl)
+
+  pub gateway-outcome : (supported pcp : Bool) (message : List ℕ) → GatewayOutcome (gateway.receiveOf g content reply supported pcp message)
+  unfolding gateway.receiveOf
+  gateway-outcome supported pcp message =
+      by-cases GatewayOutcome
+      (λ _. gateway-handled (readOf toGateway supported pcp message) (read-small toGateway gateway-round-trip supported pcp message))
+      (λ _. declined _ (refusal-among (λ n. n < 256) _ (omega arith) (omega arith)) refl)
+
+  pub gateway-number : (supported pcp : Bool) (message : List ℕ) → gateway.receiveOf g content reply supported pcp message .number < 256
+  gateway-number supported pcp message = at _ (gateway-outcome supported pcp message)
+    where
+      at : (a : gateway.After) → GatewayOutcome a → a .number < 256
+      at a (done e) = omega arith
+      at a (declined n small e) = rw e small
+
+-- ---- the next message is asked for
+
+module _ (t : Table) (reply : List ℕ) where
+  Unsaid : Asked → Type 0
+  Unsaid a = Refused (a .answer) → (lengthIn (a .answer) ≡ 0) × (a .reply ≡ reply)
+
+  said-refused : (r : Reading (t .Message)) → Small r → Unsaid (asked (said t r reply))
+  unfolding Unsaid said
+  said-refused (found m) small h = absurd (h (omega arith))
+  said-refused (refused n) small h = (omega arith, refl)
+
+  said-number : (r : Reading (t .Message)) → Small r → said t r reply .number < 256
+  unfolding said
+  said-number (found m) small = omega arith
+  said-number (refused n) small = small
+
+-- behind a guard, what there is to say, or a number below 256
+guarded-small : {M : Type 0} (n : ℕ) (r : Reading M) → n < 256 → Small r → Small (pick (eqb n 0) r (refused n))
+guarded-small n r h small = by-cases Small (λ _. small) (λ _. h)
+
+module _ (d : Device) (image map reply : List ℕ) where
+  device-wanted : Small (device.wanted d map)
+  unfolding device.wanted
+  device-wanted =
+      by-cases Small (λ _. by-cases Small (λ _. tt) (λ _. omega arith))
+      (λ _. by-cases Small (λ _. tt) (λ _. by-cases Small (λ _. tt) (λ _. by-cases Small (λ _. tt) (λ _. omega arith))))
+
+  device-ask-refused : Unsaid toGateway reply (asked (device.nextMessageOf d image map reply))
+  unfolding device.nextMessageOf
+  device-ask-refused =
+      said-refused toGateway reply _
+      (guarded-small _ (device.wanted d map) (refusal-among (λ n. n < 256) _ (omega arith) (omega arith)) device-wanted)
+
+  pub device-ask-number : device.nextMessageOf d image map reply .number < 256
+  unfolding device.nextMessageOf
+  device-ask-number =
+      said-number toGateway reply _
+      (guarded-small _ (device.wanted d map) (refusal-among (λ n. n < 256) _ (omega arith) (omega arith)) device-wanted)
+
+module _ (g : Gateway) (content reply : List ℕ) where
+  gateway-wanted : Small (gateway.wanted g)
+  unfolding gateway.wanted
+  gateway-wanted = by-cases Small (λ _. tt) (λ _. by-cases Small (λ _. tt) (λ _. by-cases Small (λ _. tt) (λ _. omega arith)))
+
+  gateway-ask-refused : Unsaid toDevice reply (asked (gateway.nextMessageOf g content reply))
+  unfolding gateway.nextMessageOf
+  gateway-ask-refused =
+      said-refused toDevice reply _
+      (guarded-small _ (gateway.wanted g) (refusal-among (λ n. n < 256) _ (omega arith) (omega arith)) gateway-wanted)
+
+  pub gateway-ask-number : gateway.nextMessageOf g content reply .number < 256
+  unfolding gateway.nextMessageOf
+  gateway-ask-number =
+      said-number toDevice reply _
+      (guarded-small _ (gateway.wanted g) (refusal-among (λ n. n < 256) _ (omega arith) (omega arith)) gateway-wanted)
+
+-- ---- every call
+
+-- a record buffer after a call that answers with a number alone
+Unkept : (bytes : List ℕ) → Left → Type 0
+Unkept bytes k = Refused (k .answer) → k .bytes ≡ bytes
+
+DeviceUntouched : (bytes image map reply : List ℕ) → DeviceGiven → Type 0
+DeviceUntouched bytes image map reply g =
+    Refused (g .answer) → (lengthIn (g .answer) ≡ 0) × (g .bytes ≡ bytes) × (g .image ≡ image) × (g .map ≡ map) × (g .reply ≡ reply)
+
+device-untouched : (bytes image map reply : List ℕ) (a : device.After) → DeviceOutcome (deviceAt bytes) image map reply a
+    → DeviceUntouched bytes image map reply
+    (record { answer = packed (a .number) (a .length); bytes = deviceKept bytes (a .number) (a .device); image = a .image; map = a .map; reply = a .reply })
+unfolding DeviceUntouched
+device-untouched bytes image map reply a (done e) h = absurd (h (omega arith))
+device-untouched bytes image map reply a (declined n small e) h =
+    subst (λ (a : device.After). Refused (packed (a .number) (a .length)) → (lengthIn (packed (a .number) (a .length)) ≡ 0)
+    × (deviceKept bytes (a .number) (a .device) ≡ bytes) × (a .image ≡ image) × (a .map ≡ map) × (a .reply ≡ reply)) (sym e)
+    (λ h. (omega arith, stays n deviceLength _ bytes (λ z. h (omega arith)), refl, refl, refl)) h
+
+GatewayUntouched : (bytes reply : List ℕ) → GatewayGiven → Type 0
+GatewayUntouched bytes reply g = Refused (g .answer) → (lengthIn (g .answer) ≡ 0) × (g .bytes ≡ bytes) × (g .reply ≡ reply)
+
+gateway-untouched : (bytes content reply : List ℕ) (a : gateway.After) → GatewayOutcome (gatewayAt bytes) content reply a
+    → GatewayUntouched bytes reply
+    (record { answer = packed (a .number) (a .length); bytes = gatewayKept bytes (a .number) (a .gateway); reply = a .reply })
+unfolding GatewayUntouched
+gateway-untouched bytes content reply a (done e) h = absurd (h (omega arith))
+gateway-untouched bytes content reply a (declined n small e) h =
+    subst (λ (a : gateway.After). Refused (packed (a .number) (a .length)) → (lengthIn (packed (a .number) (a .length)) ≡ 0)
+    × (gatewayKept bytes (a .number) (a .gateway) ≡ bytes) × (a .reply ≡ reply)) (sym e)
+    (λ h. (omega arith, stays n gatewayLength _ bytes (λ z. h (omega arith)), refl)) h
+
+-- the record, where a call is refused
+
+device-returned : (d : Device) (image map reply : List ℕ) (a : device.After) → DeviceOutcome d image map reply a → (a .number ≡ 0 → ⊥)
+    → a ≡ device.refuse d image map reply (a .number)
+device-returned d image map reply a (done e) h = absurd (h e)
+device-returned d image map reply a (declined n small e) h =
+    e ∙ ap (device.refuse d image map reply) (sym (ap (λ (x : device.After). x .number) e))
+
+gateway-returned : (g : Gateway) (content reply : List ℕ) (a : gateway.After) → GatewayOutcome g content reply a → (a .number ≡ 0 → ⊥)
+    → a ≡ gateway.refuse g content reply (a .number)
+gateway-returned g content reply a (done e) h = absurd (h e)
+gateway-returned g content reply a (declined n small e) h =
+    e ∙ ap (gateway.refuse g content reply) (sym (ap (λ (x : gateway.After). x .number) e))
+
+finished-returned : (d : Device) (code : ℕ) → (device.installFinishedOf d code .number ≡ 0 → ⊥) → device.installFinishedOf d code .device ≡ d
+unfolding device.installFinishedOf
+finished-returned d code =
+    by-cases (λ (f : Finished). (f .number ≡ 0 → ⊥) → f .device ≡ d) (λ _ h. absurd (h refl)) (λ _ _. refl)
+
+pub demand-1 : Demand1
+unfolding deviceNewOf deviceReceiveOf deviceNextMessageOf deviceInstallFinishedOf gatewayStartOf gatewayReceiveOf gatewayNextMessageOf Unkept Unsaid DeviceUntouched GatewayUntouched
+demand-1 =
+    record {
+      device-new = λ bytes version. by-cases (Unkept bytes) (λ _ h. stays _ deviceLength _ bytes h) (λ _ h. refl);
+      device-receive = λ bytes image map reply supported pcp condition message.
+          by-cases (DeviceUntouched bytes image map reply)
+          (λ _. device-untouched bytes image map reply _ (device-outcome (deviceAt bytes) image map reply _ _ condition message))
+          (λ _ h. (omega arith, refl, refl, refl, refl));
+      device-next-message = λ bytes image map reply.
+          by-cases (Unsaid toGateway reply) (λ _. device-ask-refused (deviceAt bytes) image map reply) (λ _ h. (omega arith, refl));
+      device-install-finished = λ bytes code. by-cases (Unkept bytes) (λ _ h. stays _ deviceLength _ bytes h) (λ _ h. refl);
+      gateway-start = λ bytes version size content checked. by-cases (Unkept bytes) (λ _ h. stays _ gatewayLength _ bytes h) (λ _ h. refl);
+      gateway-receive = λ bytes content reply supported pcp message.
+          by-cases (GatewayUntouched bytes reply)
+          (λ _. gateway-untouched bytes content reply _ (gateway-outcome (gatewayAt bytes) content reply _ _ message))
+          (λ _ h. (omega arith, refl, refl));
+      gateway-next-message = λ bytes content reply.
+          by-cases (Unsaid toDevice reply) (λ _. gateway-ask-refused (gatewayAt bytes) content reply) (λ _ h. (omega arith, refl));
+      device-record = λ d image map reply supported pcp condition message.
+          device-returned d image map reply _ (device-outcome d image map reply supported pcp condition message);
+      device-finished-record = finished-returned;
+      gateway-record = λ g content reply supported pcp message.
+          gateway-returned g content reply _ (gateway-outcome g content reply supported pcp message);
+    }

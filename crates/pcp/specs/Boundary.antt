@@ -1,0 +1,75 @@
+-- What holds of every call through bytes: a refusal changes no buffer, and the next call finds the record that the last one left. Assumes
+-- nothing.
+use Prim.Native.Nat.{ℕ, _/_, _%_, _≤_}
+use mathlib.Core.Path.{_≡_}
+use mathlib.Core.Bool.{Bool}
+use mathlib.Core.List.{List}
+use lib.ListN.{length}
+use Rattle.basis.specs.Bytes.{Bytes}
+use Rattle.device_record.specs.declared.Device.{Device}
+use Rattle.device_record.specs.Record.{newOf}
+use Rattle.device.specs.declared.Finished.{Finished}
+use Rattle.device.specs.Rules as device
+use Rattle.gateway.specs.declared.Gateway.{Gateway}
+use Rattle.gateway.specs.Record.{startOf}
+use Rattle.gateway.specs.Rules as gateway
+use Rattle.layout.specs.Layout.{deviceAt, deviceLength, gatewayAt, gatewayLength}
+use Rattle.pcp.specs.Exports.{fact, textOf, Left, Asked, DeviceGiven, GatewayGiven, deviceNewOf, deviceReceiveOf, deviceNextMessageOf, deviceInstallFinishedOf, gatewayStartOf, gatewayReceiveOf, gatewayNextMessageOf}
+
+-- the number in an answer, and the length of the reply
+abbrev pub numberIn : ℕ → ℕ
+numberIn answer = answer % 256
+
+abbrev pub lengthIn : ℕ → ℕ
+lengthIn answer = answer / 256
+
+-- ---- the project's demand 1, after 01's "Numbers returned": any number but 0 leaves every buffer as it was, and no reply
+
+abbrev pub Refused : ℕ → Type 0
+Refused answer = numberIn answer ≡ 0 → ⊥
+
+pub record Demand1 : Type 0 where
+  pub device-new : (bytes version : List ℕ) → let k : Left = deviceNewOf bytes version in
+      Refused (k .answer) → k .bytes ≡ bytes
+  pub device-receive : (bytes image map reply : List ℕ) (supported pcp condition : ℕ) (message : List ℕ)
+      → let g : DeviceGiven = deviceReceiveOf bytes image map reply supported pcp condition message in
+      Refused (g .answer) → (lengthIn (g .answer) ≡ 0) × (g .bytes ≡ bytes) × (g .image ≡ image) × (g .map ≡ map) × (g .reply ≡ reply)
+  pub device-next-message : (bytes image map reply : List ℕ) → let a : Asked = deviceNextMessageOf bytes image map reply in
+      Refused (a .answer) → (lengthIn (a .answer) ≡ 0) × (a .reply ≡ reply)
+  pub device-install-finished : (bytes : List ℕ) (code : ℕ) → let k : Left = deviceInstallFinishedOf bytes code in
+      Refused (k .answer) → k .bytes ≡ bytes
+  pub gateway-start : (bytes version : List ℕ) (size : ℕ) (content : List ℕ) (checked : ℕ)
+      → let k : Left = gatewayStartOf bytes version size content checked in
+      Refused (k .answer) → k .bytes ≡ bytes
+  pub gateway-receive : (bytes content reply : List ℕ) (supported pcp : ℕ) (message : List ℕ)
+      → let g : GatewayGiven = gatewayReceiveOf bytes content reply supported pcp message in
+      Refused (g .answer) → (lengthIn (g .answer) ≡ 0) × (g .bytes ≡ bytes) × (g .reply ≡ reply)
+  pub gateway-next-message : (bytes content reply : List ℕ) → let a : Asked = gatewayNextMessageOf bytes content reply in
+      Refused (a .answer) → (lengthIn (a .answer) ≡ 0) × (a .reply ≡ reply)
+  -- and of the record itself: a refused call returns the one that it was given
+  pub device-record : (d : Device) (image map reply : List ℕ) (supported pcp : Bool) (condition : ℕ) (message : List ℕ)
+      → let a : device.After = device.receiveOf d image map reply supported pcp condition message in
+      (a .number ≡ 0 → ⊥) → a ≡ device.refuse d image map reply (a .number)
+  pub device-finished-record : (d : Device) (code : ℕ) → let f : Finished = device.installFinishedOf d code in
+      (f .number ≡ 0 → ⊥) → f .device ≡ d
+  pub gateway-record : (g : Gateway) (content reply : List ℕ) (supported pcp : Bool) (message : List ℕ)
+      → let a : gateway.After = gateway.receiveOf g content reply supported pcp message in
+      (a .number ≡ 0 → ⊥) → a ≡ gateway.refuse g content reply (a .number)
+
+-- ---- the record that a call left is the one that the next call finds, whatever stood in the buffer: after a making or a start that was
+-- answered 0, and after any other call, refused or not
+
+pub record Carried : Type 0 where
+  pub device-new : (bytes version : List ℕ) → deviceLength ≤ length bytes → newOf (textOf version) .number ≡ 0
+      → deviceAt (deviceNewOf bytes version .bytes) ≡ newOf (textOf version) .device
+  pub device-receive : (bytes image map reply : List ℕ) (supported pcp condition : ℕ) (message : List ℕ) → deviceLength ≤ length bytes
+      → deviceAt (deviceReceiveOf bytes image map reply supported pcp condition message .bytes)
+      ≡ device.receiveOf (deviceAt bytes) image map reply (fact supported) (fact pcp) condition message .device
+  pub device-install-finished : (bytes : List ℕ) (code : ℕ) → deviceLength ≤ length bytes
+      → deviceAt (deviceInstallFinishedOf bytes code .bytes) ≡ device.installFinishedOf (deviceAt bytes) code .device
+  pub gateway-start : (bytes version : List ℕ) (size : ℕ) (content : List ℕ) (checked : ℕ) → gatewayLength ≤ length bytes
+      → startOf (textOf version) size content (fact checked) .number ≡ 0
+      → gatewayAt (gatewayStartOf bytes version size content checked .bytes) ≡ startOf (textOf version) size content (fact checked) .gateway
+  pub gateway-receive : (bytes content reply : List ℕ) (supported pcp : ℕ) (message : List ℕ) → gatewayLength ≤ length bytes
+      → gatewayAt (gatewayReceiveOf bytes content reply supported pcp message .bytes)
+      ≡ gateway.receiveOf (gatewayAt bytes) content reply (fact supported) (fact pcp) message .gateway
