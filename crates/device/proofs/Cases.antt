@@ -10,7 +10,7 @@ use Rattle.message.specs.Recognition.{startHolds, versionByteHolds, codeHolds, 
 use Rattle.message.specs.Messages.{deviceCode, deviceData, deviceValid, deviceFields, fragmentOk, gatewayCode, gatewayData, installCode}
 use Rattle.codec.specs.Codec.{sealed, frame, bytesOf, readOf, said}
 use Rattle.device_record.specs.Record.{holding, conditionOk, downloadOk, recordOk, mapBytes, roomOk}
-use Rattle.device.specs.Rules.{announceResult, sameFields, resumes, fragmentLength, passes, completion, executeResult}
+use Rattle.device.specs.Rules.{announceResult, sameFields, resumes, fragmentLength, fragmentNumber, passes, completion, executeResult}
 use Rattle.device.specs.Rules.{begin, store, onQuery, onAnnounce, onFragment, onDownloadReply, onExecute, onResultReply, handle}
 use Rattle.device.specs.Rules.{receiveOf, wanted, nextMessageOf, installFinishedOf}
 use Rattle.device.specs.Cases.{DeviceCases}
@@ -21,7 +21,7 @@ unfolding pick refusal oneOf part same over patched marked mark cleared missingF
     startHolds versionByteHolds codeHolds checkHolds lengthHolds recognition
     deviceCode deviceData deviceValid deviceFields fragmentOk gatewayCode gatewayData installCode sealed frame bytesOf readOf said
     holding conditionOk downloadOk recordOk mapBytes roomOk
-    announceResult sameFields resumes fragmentLength passes completion executeResult
+    announceResult sameFields resumes fragmentLength fragmentNumber passes completion executeResult
     begin store onQuery onAnnounce onFragment onDownloadReply onExecute onResultReply handle
     receiveOf wanted nextMessageOf installFinishedOf
 device-cases = record { step = refl; change = refl; answer = refl; ask = refl; finish = refl; give-order = refl; ask-order = refl }

@@ -15,6 +15,7 @@ use Rattle.basis.proofs.Choosing.{pick-no}
 use Rattle.basis.proofs.Lists.{length-patched}
 use Rattle.message.specs.Limits.{sizeOk, totalOk}
 use Rattle.message.specs.declared.Fields.{Fields}
+use Rattle.device_decisions.specs.Decisions.{lastAfter}
 use Rattle.device_record.specs.Record.{mapBytes}
 use Rattle.bitmap.specs.Bitmap.{marked, mark, cleared, setBits}
 use Rattle.device.proofs.Images.{place-within, other-place}
@@ -36,10 +37,6 @@ pub record Holds (rule : Rule) (f : Fields) (image map : List ℕ) (last : ℕ) 
   pub image-room : f .size * f .total ≤ length image
   pub map-room : mapBytes (f .total) ≤ length map
   pub each : (index : ℕ) → index < f .total → marked map index ≡ true → rule .P f image last index
-
--- the last length once a fragment is stored
-abbrev pub lastAfter : Fields → (index n last : ℕ) → ℕ
-lastAfter f index n last = pick (eqb (index + 1) (f .total)) n last
 
 -- a map just cleared marks nothing
 pub holds-cleared : (rule : Rule) (f : Fields) (image map : List ℕ) (last : ℕ) → sizeOk (f .size) ≡ true → totalOk (f .total) ≡ true

@@ -44,7 +44,7 @@ module _ (d : Device) (image map reply : List ℕ) where
   L a = a .number ≤ 12
 
   pub handle-most : (condition : ℕ) (r : Reading DeviceMessage) → Most r → handle d image map reply condition r .number ≤ 12
-  unfolding L handle onQuery onAnnounce onFragment onDownloadReply onExecute onResultReply begin store
+  unfolding L handle onQuery onAnnounce onFragment rules.fragmentNumber onDownloadReply onExecute onResultReply begin store
   handle-most condition (refused n) h = h
   handle-most condition (found query) h = omega arith
   handle-most condition (found (announce f)) h = by-cases L (λ _. by-cases L (λ _. omega arith) (λ _. omega arith)) (λ _. omega arith)
@@ -52,8 +52,7 @@ module _ (d : Device) (image map reply : List ℕ) where
       by-cases L
       (λ _. by-cases L (λ _. omega arith)
       (λ _. by-cases L (λ _. omega arith)
-      (λ _. by-cases L (λ _. omega arith)
-      (λ _. by-cases L (λ _. by-cases L (λ _. omega arith) (λ _. omega arith)) (λ _. omega arith)))))
+      (λ _. by-cases L (λ _. omega arith) (λ _. refusal-among (λ n. n ≤ 12) _ (omega arith) (omega arith)))))
       (λ _. omega arith)
   handle-most condition (found (downloadReply result)) h =
       by-cases L (λ _. omega arith) (λ _. by-cases L (λ _. omega arith) (λ _. omega arith))

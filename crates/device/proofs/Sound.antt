@@ -24,8 +24,9 @@ use Rattle.device.specs.Rules.{completion}
 use Rattle.bitmap.proofs.Bitmaps.{setBits-le, setBits-mark, setBits-cleared}
 use Rattle.device_record.proofs.Maps.{mapBytes-cover, byte-within}
 use Rattle.device_record.proofs.Ranges.{total-range, phase-holds}
+use Rattle.device_decisions.specs.Decisions.{lastAfter}
 use Rattle.device_decisions.proofs.Tested.{fragment-fits}
-use Rattle.device.proofs.Holds.{Rule, Holds, lastAfter, holds-cleared, holds-stored, holds-under}
+use Rattle.device.proofs.Holds.{Rule, Holds, holds-cleared, holds-stored, holds-under}
 use Rattle.device.proofs.Views
 
 -- ---- the invariant

@@ -15,8 +15,9 @@ use Rattle.message.specs.declared.Fields.{Fields}
 use Rattle.device_record.specs.declared.Device.{Device}
 use Rattle.device_record.specs.Record.{idle, loading, failed}
 use Rattle.device.proofs.Images.{Stands, place-within, patched-stands, joined}
+use Rattle.device_decisions.specs.Decisions.{lastAfter}
 use Rattle.device_decisions.proofs.Tested.{fragment-fits}
-use Rattle.device.proofs.Holds.{Rule, Holds, lastAfter, holds-all}
+use Rattle.device.proofs.Holds.{Rule, Holds, holds-all}
 use Rattle.device.proofs.Views
 use Rattle.device.proofs.Sound.{Download, Sound, sound-under, sound-does}
 

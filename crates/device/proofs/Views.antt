@@ -20,12 +20,13 @@ use Rattle.message.specs.declared.Fields.{Fields}
 use Rattle.codec.proofs.Heard.{read}
 use Rattle.device_decisions.proofs.Accepted.{Accepted, accepted-facts}
 use Rattle.device_record.specs.declared.Device.{Device}
-use Rattle.device_record.specs.Record.{idle, loading, loaded, acked, failed, installing, reporting, holding, inPhase, begun, withFragment, withOutcome, recordOk, roomOk, mapBytes}
+use Rattle.device_record.specs.Record.{idle, loading, loaded, acked, failed, installing, reporting, holding, inPhase, begun, withFragment, withOutcome, recordOk, roomOk, mapBytes, askRefusal, finishRefusal}
+use Rattle.device_decisions.proofs.Tested.{fragment-passed}
 use Rattle.bitmap.specs.Bitmap.{marked, mark, cleared, lowestMissing}
 use Rattle.device.specs.declared.Finished.{Finished}
 use Rattle.device.specs.Rules as rules
 use Rattle.device.specs.Rules.{After, announceResult, resumes, fragmentLength, fragmentNumber, completion, executeResult, refuse, moved, replied, begin, store, onQuery, onAnnounce, onFragment, onDownloadReply, onExecute, onResultReply, handle, receiveOf, wanted, nextMessageOf, installFinishedOf}
-use Rattle.device.proofs.Holds.{lastAfter}
+use Rattle.device_decisions.specs.Decisions.{lastAfter}
 
 -- ---- calls, and what they leave
 

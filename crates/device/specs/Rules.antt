@@ -5,7 +5,7 @@ use mathlib.Core.List.{List, [], _∷_}
 use lib.Dec.{eqb, leb, ltb}
 use lib.ListN.{length}
 use Rattle.basis.specs.Choice.{pick, refusal}
-use Rattle.basis.specs.Numbers.{noUse, badIndex, badFragmentLength, alreadyStored, unknownCondition, badMemory, shortReply, badInstallCode, badRecord}
+use Rattle.basis.specs.Numbers.{handled, noUse, badRecord}
 use Rattle.basis.specs.Bytes.{over, patched}
 use Rattle.message.specs.Limits.{deviceRoom}
 use Rattle.message.specs.Messages.{DeviceMessage, query, announce, fragment, downloadReply, execute, resultReply, GatewayMessage, queryReply, announceReply, fragmentRequest, downloadReport, executeReply, resultReport, installCode, Reading, found, refused, toDevice, toGateway}
@@ -15,7 +15,8 @@ use Rattle.device_record.specs.declared.Device.{Device}
 use Rattle.device_record.specs.Record.{idle, loading, loaded, acked, failed, installing, reporting, conditionOk, inPhase, begun, withFragment, withOutcome, mapBytes, receiveRefusal, askRefusal, finishRefusal}
 use Rattle.bitmap.specs.Bitmap.{marked, mark, cleared, lowestMissing}
 use Rattle.device.specs.declared.Finished.{Finished}
-unfoldable pub use Rattle.device_decisions.specs.Decisions.{announceResult, sameFields, resumes, fragmentLength, fragmentNumber, lastAfter, passes, completion, executeResult}
+use Rattle.device_decisions.specs.Decisions.{lastAfter}
+unfoldable pub use Rattle.device_decisions.specs.Decisions.{announceResult, sameFields, resumes, fragmentLength, fragmentNumber, passes, completion, executeResult}
 
 -- what a call leaves: the number, the length of the reply, the record, and the three buffers
 pub record After : Type 0 where

@@ -17,7 +17,11 @@ fn lent(device: Device, image: &[u8], map: &[u8]) -> u8
 {
     let kept = record_ok(device);
     let held = room_ok(device, image, map);
-    unless(kept, basis::number::BAD_RECORD, unless(held, basis::number::BAD_MEMORY, basis::number::HANDLED))
+    unless(
+        kept,
+        basis::number::BAD_RECORD,
+        unless(held, basis::number::BAD_MEMORY, basis::number::HANDLED),
+    )
 }
 
 // A message is given.
@@ -26,7 +30,15 @@ pub fn receiving(device: Device, condition: u8, image: &[u8], map: &[u8], reply:
 {
     let room = Device::REPLY_ROOM <= reply.len();
     let known = condition_ok(condition);
-    unless(room, basis::number::SHORT_REPLY, unless(known, basis::number::UNKNOWN_CONDITION, lent(device, image, map)))
+    unless(
+        room,
+        basis::number::SHORT_REPLY,
+        unless(
+            known,
+            basis::number::UNKNOWN_CONDITION,
+            lent(device, image, map),
+        ),
+    )
 }
 
 // The next message is asked for.
@@ -44,5 +56,17 @@ pub fn finishing(device: Device, code: u8) -> u8
     let kept = record_ok(device);
     let installing = device.phase == Device::INSTALLING;
     let known = message::install_code(code);
-    unless(kept, basis::number::BAD_RECORD, unless(installing, basis::number::NO_USE, unless(known, basis::number::BAD_INSTALL_CODE, basis::number::HANDLED)))
+    unless(
+        kept,
+        basis::number::BAD_RECORD,
+        unless(
+            installing,
+            basis::number::NO_USE,
+            unless(
+                known,
+                basis::number::BAD_INSTALL_CODE,
+                basis::number::HANDLED,
+            ),
+        ),
+    )
 }

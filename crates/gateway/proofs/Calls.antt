@@ -18,7 +18,7 @@ use Rattle.codec.specs.Codec.{Sent, readOf, said}
 use Rattle.message.specs.Coded.{gatewayMessage}
 use Rattle.codec.specs.Coded.{versionPlace}
 use Rattle.gateway.specs.declared.Gateway.{Gateway}
-use Rattle.gateway.specs.Record.{ask, offer, run, offered, recordOk}
+use Rattle.gateway.specs.Record.{ask, offer, run, offered, recordOk, callRefusal}
 use Rattle.gateway.specs.Rules.{refuse, handle, receiveOf, wanted, nextMessageOf}
 use Rattle.gateway.specs.Inner.{numberOf, OfCode, Sayable, Guarded}
 use Rattle.gateway.proofs.Saying.{offer-allowed}

@@ -15,7 +15,7 @@ use Rattle.checksum.specs.Check.{checkOf}
 use Rattle.message.specs.Limits.{totalMax, sizeOk}
 use Rattle.message.specs.Version.{goodVersion}
 use Rattle.gateway.specs.declared.Started.{Started}
-use Rattle.gateway.specs.Record.{totalOf, lengthOk, fragmentOf, started, startOf}
+use Rattle.gateway.specs.Record.{totalOf, lengthOk, fragmentOf, started, startOf, startRefusal}
 
 -- ---- how many fragments there are
 
@@ -77,7 +77,7 @@ pub starts : (version : List ℕ) (size : ℕ) (content : List ℕ) (checked : B
     → Begun version size content (pick checked (checkOf content) 0) (startOf version size content checked)
 unfolding startOf
 starts version size content checked =
-    let n : ℕ = gateway.startRefusal version size (length content) in
+    let n : ℕ = startRefusal version size (length content) in
     by-cases (λ (s : Started). s .number ≡ 0 → Begun version size content (pick checked (checkOf content) 0) s) {t = eqb n 0}
     (λ t _.
     let (v, e₁) = passed 16 (goodVersion version) _ (eqb-true n 0 t) in

@@ -13,7 +13,7 @@ use Rattle.message.specs.Limits.{sizeOk}
 use Rattle.message.specs.Version.{goodVersion}
 use Rattle.gateway.specs.declared.Gateway.{Gateway}
 use Rattle.gateway.specs.declared.Started.{Started}
-use Rattle.gateway.specs.Record.{lengthOk, started, startOf}
+use Rattle.gateway.specs.Record.{lengthOk, started, startOf, startRefusal}
 
 module _ (version : List ℕ) (size : ℕ) (content : List ℕ) (checked : Bool) (n : ℕ) (g : Gateway)
     (tested : n ≡ startRefusal version size (length content)) where

@@ -25,6 +25,7 @@ ghost use Rattle.message.specs.Limits.{gatewayRoom};
 ghost use Rattle.message.specs.Messages.{deviceValid, fragment, found, toDevice};
 ghost use Rattle.codec.specs.Codec.{said};
 ghost use Rattle.message.specs.Coded.{gatewayMessage};
+ghost use Rattle.gateway.specs.Record.{success, upgradeFailed};
 ghost use Rattle.gateway.specs.Rules.{asked, serving, onFragmentRequest, handle};
 ghost use Rattle.gateway.specs.Coded.{after};
 ghost use Rattle.gateway.specs.Inner.{withReply, OfCode, Guarded};
@@ -181,7 +182,11 @@ fn install_ending(gateway: Gateway, result: u8, version: [u8; 16]) -> u8
 {
     let target = gateway.version;
     let success = (result == 0x00) & message::same_version(version, target);
-    if success { Gateway::SUCCESS } else { Gateway::UPGRADE_FAILED }
+    if success {
+        Gateway::SUCCESS
+    } else {
+        Gateway::UPGRADE_FAILED
+    }
 }
 
 // 24 in Run: the end; the reply is 00. In other phases 80.

@@ -8,6 +8,7 @@ use lib.Dec.{leb}
 use lib.ListN.{length}
 use borrow.Author.Tests.{le-leb, lt-leb}
 use Rattle.basis.specs.Choice.{pick}
+use Rattle.basis.specs.Numbers.{shortRecord}
 use Rattle.basis.proofs.Choosing.{pick-yes, pick-no}
 use Rattle.basis.proofs.Lists.{length-part}
 use Rattle.codec.specs.Codec.{Sent}
@@ -27,7 +28,7 @@ use Rattle.gateway.specs.Record.{startOf}
 use Rattle.gateway.specs.Coded as coded
 use Rattle.gateway.specs.Rules as gateway
 use Rattle.layout.specs.Layout.{deviceAt, deviceBytes, deviceLength, gatewayAt, gatewayBytes, gatewayLength, kept}
-use Rattle.pcp.specs.Exports.{fact, shortRecord, packed, textOf, Left, Asked, DeviceGiven, GatewayGiven, asked, deviceNewOf, deviceReceiveOf, deviceNextMessageOf, deviceInstallFinishedOf, deviceKept, gatewayKept, gatewayStartOf, gatewayReceiveOf, gatewayNextMessageOf}
+use Rattle.pcp.specs.Exports.{fact, packed, textOf, Left, Asked, DeviceGiven, GatewayGiven, asked, deviceNewOf, deviceReceiveOf, deviceNextMessageOf, deviceInstallFinishedOf, deviceKept, gatewayKept, gatewayStartOf, gatewayReceiveOf, gatewayNextMessageOf}
 use Rattle.pcp.proofs.Fits.{device-reply-short, device-ask-short, gateway-reply-fits, gateway-ask-fits}
 
 -- ---- a record buffer that is too short, and one that is not

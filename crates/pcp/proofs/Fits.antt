@@ -18,7 +18,7 @@ use Rattle.codec.proofs.Frames.{length-frame}
 use Rattle.device_record.specs.declared.Device.{Device}
 use Rattle.device.specs.Rules as device
 use Rattle.gateway.specs.declared.Gateway.{Gateway}
-use Rattle.gateway.specs.Record.{fragmentOf, offered, recordOk}
+use Rattle.gateway.specs.Record.{fragmentOf, offered, recordOk, callRefusal}
 use Rattle.gateway.specs.Rules as gateway
 use Rattle.gateway.proofs.Saying.{told}
 
@@ -48,8 +48,7 @@ module _ (d : Device) (running : length (d .running) ≡ 16) where
         by-cases Short
         (λ _. by-cases Short (λ _. omega arith)
         (λ _. by-cases Short (λ _. omega arith)
-        (λ _. by-cases Short (λ _. omega arith)
-        (λ _. by-cases Short (λ _. by-cases Short (λ _. omega arith) (λ _. omega arith)) (λ _. omega arith)))))
+        (λ _. by-cases Short (λ _. omega arith) (λ _. omega arith))))
         (λ _. omega arith)
     handled-short condition (found (downloadReply result)) =
         by-cases Short (λ _. omega arith) (λ _. by-cases Short (λ _. omega arith) (λ _. omega arith))

@@ -49,7 +49,7 @@ module _ (d : Device) (image map reply : List ℕ) where
     declined : (n : ℕ) → n < 256 → a ≡ device.refuse d image map reply n → DeviceOutcome a
 
   device-handled : (condition : ℕ) (r : Reading DeviceMessage) → Small r → DeviceOutcome (device.handle d image map reply condition r)
-  unfolding device.handle device.onQuery device.onAnnounce device.begin device.onFragment device.store device.onDownloadReply device.onExecute device.onResultReply
+  unfolding device.handle device.onQuery device.onAnnounce device.begin device.onFragment device.fragmentNumber device.store device.onDownloadReply device.onExecute device.onResultReply
   device-handled condition (refused n) small = declined n small refl
   device-handled condition (found query) small = done refl
   device-handled condition (found (announce f)) small =
@@ -58,9 +58,8 @@ module _ (d : Device) (image map reply : List ℕ) where
       by-cases DeviceOutcome
       (λ _. by-cases DeviceOutcome (λ _. done refl)
       (λ _. by-cases DeviceOutcome (λ _. done refl)
-      (λ _. by-cases DeviceOutcome (λ _. declined 10 (omega arith) refl)
-      (λ _. by-cases DeviceOutcome (λ _. by-cases DeviceOutcome (λ _. declined 12 (omega arith) refl) (λ _. done refl))
-      (λ _. declined 11 (omega arith) refl)))))
+      (λ _. by-cases DeviceOutcome (λ _. done refl)
+      (λ _. declined _ (refusal-among (λ n. n < 256) _ (omega arith) (omega arith)) refl))))
       (λ _. declined 9 (omega arith) refl)
   device-handled condition (found (downloadReply result)) small =
       by-cases DeviceOutcome (λ _. done refl) (λ _. by-cases DeviceOutcome (λ _. done refl) (λ _. declined 9 (omega arith) refl))

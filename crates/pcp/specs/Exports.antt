@@ -24,7 +24,6 @@ use Rattle.layout.specs.Layout.{deviceAt, deviceBytes, deviceLength, gatewayAt,
 abbrev pub fact : ℕ → Bool
 fact b = not (eqb b 0)
 
--- 64 comes first of all: a record buffer shorter than its layout
 -- a number and the length of a reply, as one number
 abbrev pub packed : (number length : ℕ) → ℕ
 packed number length = number + 256 * length
@@ -33,7 +32,8 @@ packed number length = number + 256 * length
 unfoldable pub textOf : List ℕ → List ℕ
 textOf bytes = pick (leb (length bytes) 16) (part bytes 0 16) (replicate 16 0)
 
--- ---- what a call leaves: its answer, and every buffer that was lent for writing
+-- ---- what a call leaves: its answer, and every buffer that was lent for writing. A record buffer shorter than its layout is refused first of
+-- all (shortRecord)
 
 pub record Left : Type 0 where
   pub answer : ℕ

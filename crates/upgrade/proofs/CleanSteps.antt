@@ -5,7 +5,7 @@ use mathlib.Core.Path.{_≡_, refl, _∙_, ap}
 use mathlib.Core.Bool.{Bool, true, false}
 use mathlib.Core.List.{List}
 use lib.ListN.{length}
-use borrow.Author.Tests.{le-leb, lt-leb, lt-ltb, le-ltb, eq-eqb, ne-eqb, eqb-false}
+use borrow.Author.Tests.{le-leb, lt-ltb, le-ltb, eq-eqb, ne-eqb, eqb-false}
 use Rattle.basis.specs.Choice.{pick, refusal, oneOf}
 use Rattle.basis.specs.Bytes.{same, patched}
 use Rattle.basis.proofs.Choosing.{by-cases, and-both}
@@ -88,9 +88,14 @@ module _ (s : Setting) where
         by-cases (λ (t : Bool). t ≡ true) (λ _. and-both (le-leb 1 (length bytes) ranged) (le-leb (length bytes) (s .size) (stretch-fits (s .content) (s .size) k)))
         (λ n. eq-eqb (length bytes) (s .size) (fragment-full (s .content) (s .size) (some s) k image map front more (omega (arith, eqb-false (k + 1) (total s) n))))
 
+    -- neither past the last, nor of a wrong length, nor stored already
+    tested : device-rules.fragmentNumber (fields s) k (length bytes) map ≡ 0
+    unfolding device-rules.fragmentNumber refusal pick
+    tested = rw (lt-ltb k (total s) more, long, new (s .content) (s .size) (some s) k image map front more)
+
     stored : (reply : List ℕ) → deviceTakes loading (fragment 0x00 k bytes) reply ≡ storing reply
     unfolding device-rules.handle device-rules.onFragment pick
-    stored reply = rw (lt-leb (total s) k more, long, new (s .content) (s .size) (some s) k image map front more)
+    stored reply = rw tested
 
     fragment-valid : deviceValid (fragment 0x00 k bytes) ≡ true
     unfolding deviceValid fragmentOk isWord pick
