@@ -44,14 +44,14 @@ fn show_to_device(label: &[u8], bytes: &[u8]) {
         print_refused(number);
         return;
     }
-    let mut out = [0u8; 511];
+    let mut out = [0u8; ToDevice::ROOM];
     let written = codec::write_to_device(
         found,
         message::version_at(bytes, 8),
         codec::fragment_data(bytes),
         &mut out,
     );
-    let n = basis::least(written.length, 511);
+    let n = basis::least(written.length, ToDevice::ROOM);
     print_written(written.number, &out[0..n]);
 }
 
@@ -62,10 +62,10 @@ fn show_to_gateway(label: &[u8], bytes: &[u8]) {
         print_refused(number);
         return;
     }
-    let mut out = [0u8; 26];
+    let mut out = [0u8; ToGateway::ROOM];
     let at = codec::version_place(found);
     let written = codec::write_to_gateway(found, message::version_at(bytes, at), &mut out);
-    let n = basis::least(written.length, 26);
+    let n = basis::least(written.length, ToGateway::ROOM);
     print_written(written.number, &out[0..n]);
 }
 

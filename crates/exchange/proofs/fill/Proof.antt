@@ -15,35 +15,35 @@ Inv-loop content₀ build i₀ content i = (i ≤ length content) × (length con
 abbrev μ-loop : tie.MeasureT-loop
 μ-loop content₀ build i₀ content i = length content - i
 
--- src/main.rt:284:5
+-- src/main.rt:336:5
 loop-holds : tie.Need-loop-holds Inv-loop μ-loop
 loop-holds c = omega arith
 
--- src/main.rt:285:22
+-- src/main.rt:337:22
 byte-of-requires : tie.Need-byte-of-requires Inv-loop μ-loop
 byte-of-requires c κs = search needs
 
--- src/main.rt:285:9
+-- src/main.rt:337:9
 slice-write-content : tie.Need-slice-write-content Inv-loop μ-loop
 slice-write-content c = search needs
 
--- src/main.rt:286:9
+-- src/main.rt:338:9
 add-i : tie.Need-add-i Inv-loop μ-loop
 add-i c = omega arith
 
--- src/main.rt:284:5
+-- src/main.rt:336:5
 loop-less : tie.Need-loop-less Inv-loop μ-loop
 loop-less c = simp length-set (omega arith)
 
--- src/main.rt:284:5
+-- src/main.rt:336:5
 loop-again : tie.Need-loop-again Inv-loop μ-loop
 loop-again c = simp length-set (omega arith)
 
--- src/main.rt:282:1
+-- src/main.rt:334:1
 same-length : tie.Need-same-length Inv-loop μ-loop
 same-length c = search needs
 
--- src/main.rt:282:1
+-- src/main.rt:334:1
 returns : tie.Need-returns Inv-loop μ-loop
 returns c = search needs
 
