@@ -2,6 +2,8 @@
 // WORD and that many bytes. A reader holds the borrowed capture and its place (01's walker). The work
 // is done by functions on a slice and a number; those over the reader only take it apart, and
 // `walk_from` serves callers that hold the place as a number.
+use basis::number::BAD_MARK;
+use basis::number::CUT_SHORT;
 ghost use mathlib.Core.Path.{_≡_};
 ghost use Rattle.capture.specs.Capture.{wrongMark, itemAt, walkAt};
 ghost use Rattle.capture.specs.Coded.{itemOf, told};
@@ -52,15 +54,15 @@ fn step_at(capture: &[u8], at: usize) -> Step
     }
     let left = capture.len() - at;
     if left == 1 {
-        return Step::Fault(basis::number::CUT_SHORT);
+        return Step::Fault(CUT_SHORT);
     }
     let mark = basis::word_at(capture, at);
     if wrong_mark(mark) {
-        return Step::Fault(basis::number::BAD_MARK);
+        return Step::Fault(BAD_MARK);
     }
     let length = basis::word_at(capture, at + 2) as usize;
     if left < HEAD_LENGTH + length {
-        Step::Fault(basis::number::CUT_SHORT)
+        Step::Fault(CUT_SHORT)
     } else {
         let start = at + HEAD_LENGTH;
         Step::Record {

@@ -2,6 +2,7 @@
 use crate::parts::data_len;
 use crate::parts::device_parts;
 use crate::parts::gateway_parts;
+use basis::number::BAD_DATA;
 use message::ToDevice;
 use message::ToGateway;
 ghost use mathlib.Core.Path.{_≡_};
@@ -89,7 +90,7 @@ pub fn read_to_device(supported: bool, pcp: bool, message: &[u8]) -> ToDevice
     if message::device_valid(read, version, content) & (8 + len == message.len()) {
         read
     } else {
-        ToDevice::Refused(basis::number::BAD_DATA)
+        ToDevice::Refused(BAD_DATA)
     }
 }
 
@@ -107,6 +108,6 @@ pub fn read_to_gateway(supported: bool, pcp: bool, message: &[u8]) -> ToGateway
     if message::gateway_valid(read, version) & (8 + len == message.len()) {
         read
     } else {
-        ToGateway::Refused(basis::number::BAD_DATA)
+        ToGateway::Refused(BAD_DATA)
     }
 }

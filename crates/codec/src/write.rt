@@ -4,6 +4,8 @@ use crate::parts::Parts;
 use crate::parts::data_len;
 use crate::parts::device_parts;
 use crate::parts::gateway_parts;
+use basis::number::BAD_DATA;
+use basis::number::SHORT_REPLY;
 use message::ToDevice;
 use message::ToGateway;
 ghost use mathlib.Core.Path.{_≡_};
@@ -94,13 +96,13 @@ pub fn write_to_device(
 {
     if out.len() < ToDevice::ROOM {
         return Written {
-            number: basis::number::SHORT_REPLY,
+            number: SHORT_REPLY,
             length: 0,
         };
     }
     if !message::device_valid(message, version, content) {
         return Written {
-            number: basis::number::BAD_DATA,
+            number: BAD_DATA,
             length: 0,
         };
     }
@@ -115,13 +117,13 @@ pub fn write_to_gateway(message: ToGateway, version: [u8; 16], out: &mut [u8]) -
 {
     if out.len() < ToGateway::ROOM {
         return Written {
-            number: basis::number::SHORT_REPLY,
+            number: SHORT_REPLY,
             length: 0,
         };
     }
     if !message::gateway_valid(message, version) {
         return Written {
-            number: basis::number::BAD_DATA,
+            number: BAD_DATA,
             length: 0,
         };
     }

@@ -1,4 +1,6 @@
 // What the device has to say when it is asked.
+use basis::number::BAD_RECORD;
+use basis::number::NO_USE;
 use device_record::Device;
 use message::ToGateway;
 ghost use mathlib.Core.Path.{_≡_};
@@ -31,7 +33,7 @@ fn wanted_fragment(total: u16, map: &[u8]) -> ToGateway
     if index < total as usize {
         ToGateway::FragmentRequest(index as u16)
     } else {
-        ToGateway::Refused(basis::number::BAD_RECORD)
+        ToGateway::Refused(BAD_RECORD)
     }
 }
 
@@ -48,6 +50,6 @@ pub(crate) fn wanted(device: Device, map: &[u8]) -> ToGateway
         Device::LOADED => ToGateway::DownloadReport(0x00),
         Device::FAILED => ToGateway::DownloadReport(0x07),
         Device::REPORTING => ToGateway::ResultReport(device.outcome),
-        _ => ToGateway::Refused(basis::number::NO_USE),
+        _ => ToGateway::Refused(NO_USE),
     }
 }

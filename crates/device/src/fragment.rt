@@ -3,6 +3,7 @@ use crate::Answer;
 use crate::replies::moved;
 use crate::replies::refusal;
 use crate::replies::refused;
+use basis::number::NO_USE;
 use device_decisions::completion;
 use device_decisions::fragment_number;
 use device_decisions::last_length;
@@ -62,7 +63,7 @@ pub(crate) fn on_fragment(
         return refused(device, refusal(message));
     };
     if device.phase != Device::LOADING {
-        return refused(device, basis::number::NO_USE);
+        return refused(device, NO_USE);
     }
     if result == 0x80 {
         return moved(in_phase(device, Device::IDLE));

@@ -1,6 +1,7 @@
 // What a call answers, and the handlers of the messages that carry no package.
 use crate::Answer;
 use crate::Said;
+use basis::number::NO_USE;
 use basis::pick;
 use device_decisions::execute_result;
 use device_record::Device;
@@ -27,7 +28,7 @@ pub(crate) fn refusal(message: ToDevice) -> u8
 {
     match message {
         ToDevice::Refused(number) => number,
-        _ => basis::number::NO_USE,
+        _ => NO_USE,
     }
 }
 
@@ -117,7 +118,7 @@ pub(crate) fn on_download_reply(device: Device, message: ToDevice) -> Answer
     if device.phase == Device::FAILED {
         return moved(in_phase(device, Device::IDLE));
     }
-    refused(device, basis::number::NO_USE)
+    refused(device, NO_USE)
 }
 
 // 23: the order to install.
@@ -156,6 +157,6 @@ pub(crate) fn on_result_reply(device: Device, message: ToDevice) -> Answer
     if device.phase == Device::REPORTING {
         moved(in_phase(device, Device::IDLE))
     } else {
-        refused(device, basis::number::NO_USE)
+        refused(device, NO_USE)
     }
 }

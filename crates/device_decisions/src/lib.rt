@@ -1,6 +1,10 @@
 // What the device decides of the messages that it is given: each test of 01's "The head" by itself,
 // over the record and plain values. Nothing is written here.
 use basis::least;
+use basis::number::ALREADY_STORED;
+use basis::number::BAD_FRAGMENT_LENGTH;
+use basis::number::BAD_INDEX;
+use basis::number::HANDLED;
 use basis::pick;
 use basis::product;
 use basis::unless;
@@ -74,12 +78,8 @@ pub fn fragment_number(fields: Fields, index: u16, len: usize, map: &[u8]) -> u8
     let below = index < fields.total;
     let long = fragment_length(fields, index, len);
     let new = !bitmap::marked(map, index as usize);
-    let stored = unless(new, basis::number::ALREADY_STORED, basis::number::HANDLED);
-    unless(
-        below,
-        basis::number::BAD_INDEX,
-        unless(long, basis::number::BAD_FRAGMENT_LENGTH, stored),
-    )
+    let stored = unless(new, ALREADY_STORED, HANDLED);
+    unless(below, BAD_INDEX, unless(long, BAD_FRAGMENT_LENGTH, stored))
 }
 
 // The completed bytes pass: the package has no check code, or it is theirs.

@@ -4,6 +4,13 @@ use crate::Device;
 use crate::record::condition_ok;
 use crate::record::record_ok;
 use crate::record::room_ok;
+use basis::number::BAD_INSTALL_CODE;
+use basis::number::BAD_MEMORY;
+use basis::number::BAD_RECORD;
+use basis::number::HANDLED;
+use basis::number::NO_USE;
+use basis::number::SHORT_REPLY;
+use basis::number::UNKNOWN_CONDITION;
 use basis::unless;
 ghost use mathlib.Core.Path.{_≡_};
 ghost use mathlib.Core.List.{[], _∷_};
@@ -17,11 +24,7 @@ fn lent(device: Device, image: &[u8], map: &[u8]) -> u8
 {
     let kept = record_ok(device);
     let held = room_ok(device, image, map);
-    unless(
-        kept,
-        basis::number::BAD_RECORD,
-        unless(held, basis::number::BAD_MEMORY, basis::number::HANDLED),
-    )
+    unless(kept, BAD_RECORD, unless(held, BAD_MEMORY, HANDLED))
 }
 
 // A message is given.
@@ -32,12 +35,8 @@ pub fn receiving(device: Device, condition: u8, image: &[u8], map: &[u8], reply:
     let known = condition_ok(condition);
     unless(
         room,
-        basis::number::SHORT_REPLY,
-        unless(
-            known,
-            basis::number::UNKNOWN_CONDITION,
-            lent(device, image, map),
-        ),
+        SHORT_REPLY,
+        unless(known, UNKNOWN_CONDITION, lent(device, image, map)),
     )
 }
 
@@ -46,7 +45,7 @@ pub fn asking(device: Device, image: &[u8], map: &[u8], reply: &[u8]) -> u8
     ensures { λ r. ⌜ r ≡ askRefusal device (now (image .entry)) (now (map .entry)) (now (reply .entry)) ⌝ }
 {
     let room = Device::REPLY_ROOM <= reply.len();
-    unless(room, basis::number::SHORT_REPLY, lent(device, image, map))
+    unless(room, SHORT_REPLY, lent(device, image, map))
 }
 
 // The installer's end.
@@ -58,15 +57,7 @@ pub fn finishing(device: Device, code: u8) -> u8
     let known = message::install_code(code);
     unless(
         kept,
-        basis::number::BAD_RECORD,
-        unless(
-            installing,
-            basis::number::NO_USE,
-            unless(
-                known,
-                basis::number::BAD_INSTALL_CODE,
-                basis::number::HANDLED,
-            ),
-        ),
+        BAD_RECORD,
+        unless(installing, NO_USE, unless(known, BAD_INSTALL_CODE, HANDLED)),
     )
 }

@@ -1,5 +1,6 @@
 // The record of the device ("head" in 01): how it is made, whether it keeps the rules, and what each
 // call is refused for before anything is done.
+use basis::number::BAD_VERSION_TEXT;
 use message::Fields;
 use message::ToGateway;
 ghost use mathlib.Core.Path.{_≡_};
@@ -78,7 +79,7 @@ impl Device {
             }
         } else {
             Made {
-                number: basis::number::BAD_VERSION_TEXT,
+                number: BAD_VERSION_TEXT,
                 device: record::fresh([0u8; 16]),
             }
         }

@@ -11,6 +11,7 @@ use crate::replies::number_of;
 use crate::replies::refused;
 use crate::replies::replied;
 use crate::replies::replied_bare;
+use basis::number::NO_USE;
 use message::ToDevice;
 use message::ToGateway;
 ghost use mathlib.Core.Path.{_≡_};
@@ -59,7 +60,7 @@ pub(crate) fn on_query_reply(gateway: Gateway, message: ToGateway, version: [u8;
     };
     let phase = gateway.phase;
     if phase != Gateway::ASK {
-        return refused(gateway, basis::number::NO_USE);
+        return refused(gateway, NO_USE);
     }
     moved(asked(gateway, version))
 }
@@ -74,7 +75,7 @@ pub(crate) fn on_announce_reply(gateway: Gateway, message: ToGateway) -> Answer
     };
     let phase = gateway.phase;
     if phase != Gateway::OFFER {
-        return refused(gateway, basis::number::NO_USE);
+        return refused(gateway, NO_USE);
     }
     let good = in_phase(gateway, Gateway::SERVE);
     moved(by_result(result, good, ended_with(gateway, Gateway::NOT_ACCEPTED)))
@@ -171,7 +172,7 @@ pub(crate) fn on_execute_reply(gateway: Gateway, message: ToGateway) -> Answer
     };
     let phase = gateway.phase;
     if phase != Gateway::RUN {
-        return refused(gateway, basis::number::NO_USE);
+        return refused(gateway, NO_USE);
     }
     moved(by_result(result, gateway, ended_with(gateway, Gateway::NOT_EXECUTED)))
 }

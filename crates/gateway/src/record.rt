@@ -3,6 +3,9 @@ use crate::Gateway;
 use crate::Started;
 use crate::fragments::length_ok;
 use crate::fragments::size_ok;
+use basis::number::BAD_PACKAGE;
+use basis::number::BAD_SIZE;
+use basis::number::BAD_VERSION_TEXT;
 ghost use mathlib.Core.Path.{_≡_};
 ghost use Rattle.basis.specs.Choice.{pick};
 ghost use Rattle.checksum.specs.Check.{checkOf};
@@ -15,13 +18,13 @@ fn start_refusal(version: [u8; 16], size: u16, length: usize) -> u8
     ensures { λ r. ⌜ r ≡ startRefusal version size length ⌝ }
 {
     if !message::good_version(version) {
-        return basis::number::BAD_VERSION_TEXT;
+        return BAD_VERSION_TEXT;
     }
     if !size_ok(size) {
-        return basis::number::BAD_SIZE;
+        return BAD_SIZE;
     }
     if !length_ok(length, size) {
-        return basis::number::BAD_PACKAGE;
+        return BAD_PACKAGE;
     }
     0
 }

@@ -2,6 +2,7 @@
 use crate::Answer;
 use crate::Gateway;
 use crate::Said;
+use basis::number::NO_USE;
 use message::ToDevice;
 use message::ToGateway;
 ghost use mathlib.Core.Path.{_≡_};
@@ -24,7 +25,7 @@ pub(crate) fn number_of(message: ToGateway) -> u8
     if let ToGateway::Refused(number) = message {
         number
     } else {
-        basis::number::NO_USE
+        NO_USE
     }
 }
 

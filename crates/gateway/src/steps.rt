@@ -14,6 +14,10 @@ use crate::record::record_ok;
 use crate::replies::number_of;
 use crate::replies::refused;
 use crate::replies::say;
+use basis::number::BAD_MEMORY;
+use basis::number::BAD_RECORD;
+use basis::number::NO_USE;
+use basis::number::SHORT_REPLY;
 use message::ToDevice;
 use message::ToGateway;
 ghost use mathlib.Core.Path.{_≡_};
@@ -31,13 +35,13 @@ fn call_refusal(gateway: Gateway, content: usize, reply: usize) -> u8
 {
     let length = gateway.length;
     if reply < Gateway::REPLY_ROOM {
-        return basis::number::SHORT_REPLY;
+        return SHORT_REPLY;
     }
     if !record_ok(gateway) {
-        return basis::number::BAD_RECORD;
+        return BAD_RECORD;
     }
     if content != length {
-        return basis::number::BAD_MEMORY;
+        return BAD_MEMORY;
     }
     0
 }
@@ -109,7 +113,7 @@ fn wanted(gateway: Gateway) -> ToDevice
     if phase == Gateway::RUN {
         return ToDevice::Execute;
     }
-    ToDevice::Refused(basis::number::NO_USE)
+    ToDevice::Refused(NO_USE)
 }
 
 // The next message is asked for. The record stays as it is.

@@ -1,4 +1,11 @@
 // Recognition: the tests 1 to 7 in their order. The first that fails gives its number.
+use basis::number::BAD_CHECK;
+use basis::number::BAD_CODE;
+use basis::number::BAD_LENGTH;
+use basis::number::BAD_START;
+use basis::number::BAD_VERSION;
+use basis::number::OTHER_PROTOCOL;
+use basis::number::UNSUPPORTED;
 ghost use mathlib.Core.Path.{_≡_};
 ghost use Prim.Native.Nat.{_≤_};
 ghost use lib.ListN.{length};
@@ -48,25 +55,25 @@ pub fn recognise(supported: bool, pcp: bool, message: &[u8]) -> u8
     ensures { λ r. ⌜ r ≡ recognition supported pcp (now (message .entry)) ⌝ }
 {
     if !supported {
-        return basis::number::UNSUPPORTED;
+        return UNSUPPORTED;
     }
     if !pcp {
-        return basis::number::OTHER_PROTOCOL;
+        return OTHER_PROTOCOL;
     }
     if !start_holds(message) {
-        return basis::number::BAD_START;
+        return BAD_START;
     }
     if !version_byte_holds(message) {
-        return basis::number::BAD_VERSION;
+        return BAD_VERSION;
     }
     if !code_holds(message) {
-        return basis::number::BAD_CODE;
+        return BAD_CODE;
     }
     if !check_holds(message) {
-        return basis::number::BAD_CHECK;
+        return BAD_CHECK;
     }
     if !length_holds(message) {
-        return basis::number::BAD_LENGTH;
+        return BAD_LENGTH;
     }
     0
 }

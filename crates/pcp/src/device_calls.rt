@@ -1,7 +1,7 @@
 // The device's calls. `bytes` is the buffer in which the host keeps the record.
-use crate::answers::SHORT_RECORD;
 use crate::answers::packed;
 use crate::answers::text_of;
+use basis::number::SHORT_RECORD;
 use device::Device;
 ghost use mathlib.Core.Path.{_≡_};
 ghost use Rattle.pcp.specs.Exports.{deviceNewOf, deviceReceiveOf, deviceNextMessageOf, deviceInstallFinishedOf};

@@ -1,8 +1,8 @@
 // The gateway's calls. `bytes` is the buffer in which the host keeps the record, `content` the
 // package.
-use crate::answers::SHORT_RECORD;
 use crate::answers::packed;
 use crate::answers::text_of;
+use basis::number::SHORT_RECORD;
 use gateway::Gateway;
 ghost use mathlib.Core.Path.{_≡_};
 ghost use Rattle.pcp.specs.Exports.{gatewayStartOf, gatewayReceiveOf, gatewayNextMessageOf};

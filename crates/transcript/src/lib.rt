@@ -2,6 +2,7 @@
 // device, made by a device that is given the records' messages one after the other.
 mod text;
 
+use basis::number::CUT_SHORT;
 use capture::Step;
 use device::Answer;
 use device::Device;
@@ -177,7 +178,7 @@ pub fn replay(capture: &[u8], out: &mut [u8]) -> usize
         return 0;
     }
     if CAPTURE_MOST < capture.len() {
-        return text::put_number(out, 0, basis::number::CUT_SHORT as usize, b'\n');
+        return text::put_number(out, 0, CUT_SHORT as usize, b'\n');
     }
     let made = Device::new(VERSION);
     let device = made.device;
