@@ -1,16 +1,59 @@
 // Runs both ends against each other, over buffers of this program, and prints one line per stage: a
 // clean run, a run with losses, repeats and reorderings, an interrupted download that is resumed, and
 // a recut of a version whose first build was half downloaded (March). Every image starts as zeros,
-// and every loop has a budget of turns. The package has 300 fragments of 32 bytes and one of 17.
+// and every loop has a budget of turns.
 use device::Device;
 use gateway::Gateway;
 use libc::STDOUT_FILENO;
 
-// Both ends, how many messages they have put on the air, how many arrived at one of them, and the
-// length of what the last call wrote, 0 where it wrote nothing.
+// The package: the size of its fragments, how many of them are full, and the length of the one after
+// those.
+const SIZE: u16 = Gateway::SIZE_MIN;
+
+const FULL: usize = 300;
+
+const LAST: usize = 17;
+
+const TOTAL: usize = FULL + 1;
+
+// The lengths of the package, of an image with room for every fragment at its full size, and of a map
+// with a bit for each.
+const CONTENT: usize = FULL * SIZE as usize + LAST;
+
+const IMAGE: usize = TOTAL * SIZE as usize;
+
+const MAP: usize = (TOTAL + 7) / 8;
+
+// How many buffers there are in each direction, and the room in one from the device and in one toward
+// it: the least that its sender takes.
+const BUFFERS: usize = 4;
+
+const UP: usize = Device::REPLY_ROOM;
+
+const DOWN: usize = Gateway::REPLY_ROOM;
+
+// The budgets of turns: of a whole download, of half of one, and of the run with losses.
+const WHOLE: u32 = 400;
+
+const HALF: u32 = FULL as u32 / 2;
+
+const LOSSY: u32 = 65536;
+
+// What is on the air, what the hosts keep, both ends, and what has come of it.
 struct Pair {
+    // The buffers from the device and toward it, and which of each are in use, counted modulo BUFFERS.
+    up: [u8; BUFFERS * UP],
+    down: [u8; BUFFERS * DOWN],
+    use_up: usize,
+    use_down: usize,
+    // The package, and the device's image and map.
+    content: [u8; CONTENT],
+    image: [u8; IMAGE],
+    map: [u8; MAP],
     device: Device,
     gateway: Gateway,
+    // How many messages were sent, how many arrived, and the length of what the last call wrote, 0
+    // where it wrote nothing.
     sent: u32,
     given: u32,
     length: usize,
@@ -31,20 +74,6 @@ fn wrote(pair: Pair, length: usize) -> Pair {
     next
 }
 
-// The device after a call, which wrote so many bytes.
-fn with_device(pair: Pair, device: Device, length: usize) -> Pair {
-    let mut next = wrote(pair, length);
-    next.device = device;
-    next
-}
-
-// The gateway after a call, which wrote so many bytes.
-fn with_gateway(pair: Pair, gateway: Gateway, length: usize) -> Pair {
-    let mut next = wrote(pair, length);
-    next.gateway = gateway;
-    next
-}
-
 // A message has arrived.
 fn arrived(pair: Pair) -> Pair {
     let mut next = pair;
@@ -59,118 +88,161 @@ fn spoken<'a>(buffer: &'a [u8]) -> &'a [u8] {
 }
 
 // The device is asked for its next message.
-fn ask_device(pair: Pair, image: &[u8], map: &[u8], up: &mut [u8]) -> Pair {
-    let device = pair.device;
-    let said = device::next_message(device, image, map, up);
-    with_device(pair, device, said.length)
+fn ask_device(pair: Pair) -> Pair {
+    let at = pair.use_up % BUFFERS * UP;
+    let image = pair.image;
+    let map = pair.map;
+    let mut up = pair.up;
+    let said = device::next_message(pair.device, &image, &map, &mut up[at..at + UP]);
+    let mut next = wrote(pair, said.length);
+    next.up = up;
+    next
 }
 
 // The gateway is asked for its next message.
-fn ask_gateway(pair: Pair, content: &[u8], down: &mut [u8]) -> Pair {
-    let gateway = pair.gateway;
-    let said = gateway::next_message(gateway, content, down);
-    with_gateway(pair, gateway, said.length)
+fn ask_gateway(pair: Pair) -> Pair {
+    let at = pair.use_down % BUFFERS * DOWN;
+    let content = pair.content;
+    let mut down = pair.down;
+    let said = gateway::next_message(pair.gateway, &content, &mut down[at..at + DOWN]);
+    let mut next = wrote(pair, said.length);
+    next.down = down;
+    next
 }
 
-// The device is given what is in a buffer. It is always ready.
-fn give_device(pair: Pair, down: &[u8], image: &mut [u8], map: &mut [u8], up: &mut [u8]) -> Pair {
-    if basis::byte_at(down, 0) == 0 {
-        return pair;
-    }
-    let answer = device::receive(pair.device, true, true, 0, spoken(down), image, map, up);
-    with_device(arrived(pair), answer.device, answer.length)
+// The device, which is always ready, receives a message.
+fn device_receives(
+    device: Device,
+    message: &[u8],
+    image: &mut [u8; IMAGE],
+    map: &mut [u8; MAP],
+    reply: &mut [u8],
+) -> device::Answer {
+    device::receive(device, true, true, 0, message, image, map, reply)
 }
 
-// The gateway is given what is in a buffer.
-fn give_gateway(pair: Pair, up: &[u8], content: &[u8], down: &mut [u8]) -> Pair {
-    if basis::byte_at(up, 0) == 0 {
+// The device hears what is in the buffer in use.
+fn device_hears(pair: Pair) -> Pair {
+    let from = pair.use_down % BUFFERS * DOWN;
+    let to = pair.use_up % BUFFERS * UP;
+    let down = pair.down;
+    let mut image = pair.image;
+    let mut map = pair.map;
+    let mut up = pair.up;
+    let answer = device_receives(
+        pair.device,
+        spoken(&down[from..from + DOWN]),
+        &mut image,
+        &mut map,
+        &mut up[to..to + UP],
+    );
+    let device = answer.device;
+    let mut next = wrote(pair, answer.length);
+    next.device = device;
+    next.image = image;
+    next.map = map;
+    next.up = up;
+    next
+}
+
+// The gateway receives a message.
+fn gateway_receives(
+    gateway: Gateway,
+    message: &[u8],
+    content: &[u8; CONTENT],
+    reply: &mut [u8],
+) -> gateway::Answer {
+    gateway::receive(gateway, true, true, message, content, reply)
+}
+
+// The gateway hears what is in the buffer in use.
+fn gateway_hears(pair: Pair) -> Pair {
+    let from = pair.use_up % BUFFERS * UP;
+    let to = pair.use_down % BUFFERS * DOWN;
+    let up = pair.up;
+    let content = pair.content;
+    let mut down = pair.down;
+    let answer = gateway_receives(
+        pair.gateway,
+        spoken(&up[from..from + UP]),
+        &content,
+        &mut down[to..to + DOWN],
+    );
+    let gateway = answer.gateway;
+    let mut next = wrote(pair, answer.length);
+    next.gateway = gateway;
+    next.down = down;
+    next
+}
+
+// The device is given the message in the buffer in use, where there is one.
+fn give_device(pair: Pair) -> Pair {
+    let from = pair.use_down % BUFFERS * DOWN;
+    let down = pair.down;
+    if down[from] == 0 {
         return pair;
     }
-    let answer = gateway::receive(pair.gateway, true, true, spoken(up), content, down);
-    with_gateway(arrived(pair), answer.gateway, answer.length)
+    device_hears(arrived(pair))
+}
+
+// The gateway is given the message in the buffer in use, where there is one.
+fn give_gateway(pair: Pair) -> Pair {
+    let from = pair.use_up % BUFFERS * UP;
+    let up = pair.up;
+    if up[from] == 0 {
+        return pair;
+    }
+    gateway_hears(arrived(pair))
 }
 
 // The installer ends with 00, where it runs.
 fn install(pair: Pair) -> Pair {
     let finished = device::install_finished(pair.device, 0x00);
-    with_device(pair, finished.device, 0)
+    let device = finished.device;
+    let mut next = wrote(pair, 0);
+    next.device = device;
+    next
 }
 
 // What the device has said arrives at the gateway, and the reply at the device.
-fn heard_by_gateway(
-    pair: Pair,
-    content: &[u8],
-    image: &mut [u8],
-    map: &mut [u8],
-    down: &mut [u8],
-    up: &mut [u8],
-) -> Pair {
-    let heard = give_gateway(pair, up, content, down);
+fn heard_by_gateway(pair: Pair) -> Pair {
+    let heard = give_gateway(pair);
     if heard.length == 0 {
         return heard;
     }
-    give_device(heard, down, image, map, up)
+    give_device(heard)
 }
 
 // What the gateway has said arrives at the device, and the reply at the gateway.
-fn heard_by_device(
-    pair: Pair,
-    content: &[u8],
-    image: &mut [u8],
-    map: &mut [u8],
-    down: &mut [u8],
-    up: &mut [u8],
-) -> Pair {
-    let heard = give_device(pair, down, image, map, up);
+fn heard_by_device(pair: Pair) -> Pair {
+    let heard = give_device(pair);
     if heard.length == 0 {
         return heard;
     }
-    give_gateway(heard, up, content, down)
+    give_gateway(heard)
 }
 
 // The device is asked; what it says and the reply arrive once each.
-fn device_round(
-    pair: Pair,
-    content: &[u8],
-    image: &mut [u8],
-    map: &mut [u8],
-    down: &mut [u8],
-    up: &mut [u8],
-) -> Pair {
-    let asked = ask_device(pair, image, map, up);
+fn device_round(pair: Pair) -> Pair {
+    let asked = ask_device(pair);
     if asked.length == 0 {
         return asked;
     }
-    heard_by_gateway(asked, content, image, map, down, up)
+    heard_by_gateway(asked)
 }
 
 // The gateway is asked; what it says and the reply arrive once each.
-fn gateway_round(
-    pair: Pair,
-    content: &[u8],
-    image: &mut [u8],
-    map: &mut [u8],
-    down: &mut [u8],
-    up: &mut [u8],
-) -> Pair {
-    let asked = ask_gateway(pair, content, down);
+fn gateway_round(pair: Pair) -> Pair {
+    let asked = ask_gateway(pair);
     if asked.length == 0 {
         return asked;
     }
-    heard_by_device(asked, content, image, map, down, up)
+    heard_by_device(asked)
 }
 
 // The query and the announcement.
-fn announce(
-    pair: Pair,
-    content: &[u8],
-    image: &mut [u8],
-    map: &mut [u8],
-    down: &mut [u8],
-    up: &mut [u8],
-) -> Pair {
-    let queried = gateway_round(pair, content, image, map, down, up);
-    gateway_round(queried, content, image, map, down, up)
+fn announce(pair: Pair) -> Pair {
+    gateway_round(gateway_round(pair))
 }
 
 // Loading, Loaded or Failed: the device has something to say of its download.
@@ -181,112 +253,47 @@ fn downloading(pair: Pair) -> bool {
 }
 
 // The device is asked until it has nothing to send, or so many times.
-fn download(
-    pair: Pair,
-    turns: u32,
-    content: &[u8],
-    image: &mut [u8],
-    map: &mut [u8],
-    down: &mut [u8],
-    up: &mut [u8],
-) -> Pair {
+fn download(pair: Pair, turns: u32) -> Pair {
     let mut next = pair;
     let mut i = 0;
     while i < turns {
         if !downloading(next) {
             return next;
         }
-        next = device_round(next, content, image, map, down, up);
+        next = device_round(next);
         i += 1;
     }
     next
 }
 
-// The order to install, and the installer's end.
-fn execute(
-    pair: Pair,
-    content: &[u8],
-    image: &mut [u8],
-    map: &mut [u8],
-    down: &mut [u8],
-    up: &mut [u8],
-) -> Pair {
-    install(gateway_round(pair, content, image, map, down, up))
-}
-
-// The order to install, and the report.
-fn finish(
-    pair: Pair,
-    content: &[u8],
-    image: &mut [u8],
-    map: &mut [u8],
-    down: &mut [u8],
-    up: &mut [u8],
-) -> Pair {
-    let installed = execute(pair, content, image, map, down, up);
-    device_round(installed, content, image, map, down, up)
+// The order to install, the installer's end, and the report.
+fn finish(pair: Pair) -> Pair {
+    device_round(install(gateway_round(pair)))
 }
 
 // From the download to success. Messages and replies arrive once each, in order.
-fn complete(
-    pair: Pair,
-    content: &[u8],
-    image: &mut [u8],
-    map: &mut [u8],
-    down: &mut [u8],
-    up: &mut [u8],
-) -> Pair {
-    let loaded = download(pair, 400, content, image, map, down, up);
-    finish(loaded, content, image, map, down, up)
+fn complete(pair: Pair) -> Pair {
+    finish(download(pair, WHOLE))
 }
 
-// One of five acts. What is said goes to its buffer, and stays there until it is overwritten.
-fn act(
-    pair: Pair,
-    choice: u32,
-    content: &[u8],
-    image: &mut [u8],
-    map: &mut [u8],
-    down: &mut [u8],
-    up: &mut [u8],
-) -> Pair {
+// One of five acts. What is said goes to the buffer in use, and stays there until it is overwritten.
+fn act(pair: Pair, choice: u32) -> Pair {
     match choice {
         0 => install(pair),
-        1 => ask_gateway(pair, content, down),
-        2 | 3 => ask_device(pair, image, map, up),
-        4 | 5 => give_gateway(pair, up, content, down),
-        _ => give_device(pair, down, image, map, up),
+        1 => ask_gateway(pair),
+        2 | 3 => ask_device(pair),
+        4 | 5 => give_gateway(pair),
+        _ => give_device(pair),
     }
 }
 
-// An act over one of four buffers in each direction, as the choice has it. So a message is lost where
+// An act over one of the buffers in each direction, as the choice has it. So a message is lost where
 // another overwrites it, arrives again as long as it stands, and may overtake an earlier one.
-fn turn(
-    pair: Pair,
-    choice: u32,
-    content: &[u8],
-    image: &mut [u8],
-    map: &mut [u8],
-    down: &mut [u8],
-    up: &mut [u8],
-) -> Pair {
-    let d = (choice / 8 % 4) as usize * 511;
-    let u = (choice / 32 % 4) as usize * 26;
-    if down.len() < 2044 {
-        return pair;
-    }
-    if up.len() < 104 {
-        return pair;
-    }
-    act(
-        pair,
-        choice % 8,
-        content,
-        image,
-        map,
-        &mut down[d..d + 511],
-        &mut up[u..u + 26],
-    )
+fn turn(pair: Pair, choice: u32) -> Pair {
+    let mut next = pair;
+    next.use_down = (choice / 8) as usize;
+    next.use_up = (choice / 32) as usize;
+    act(next, choice % 8)
 }
 
 // The next of a fixed sequence of choices.
@@ -304,15 +311,7 @@ fn over(pair: Pair) -> bool {
 // Acts as the choices have them, until all is over. By the rules not every sequence of them ends in
 // success (a 23 that comes when the device is Reporting is answered 01, and ends the gateway with 4);
 // this one does.
-fn lossy_run(
-    pair: Pair,
-    turns: u32,
-    content: &[u8],
-    image: &mut [u8],
-    map: &mut [u8],
-    down: &mut [u8],
-    up: &mut [u8],
-) -> Pair {
+fn lossy_run(pair: Pair, turns: u32) -> Pair {
     let mut next = pair;
     let mut choice = 1;
     let mut i = 0;
@@ -321,7 +320,7 @@ fn lossy_run(
             return next;
         }
         choice = next_choice(choice);
-        next = turn(next, choice, content, image, map, down, up);
+        next = turn(next, choice);
         i += 1;
     }
     next
@@ -338,6 +337,13 @@ fn fill(content: &mut [u8], build: u8) {
         content[i] = byte_of(build, i);
         i += 1;
     }
+}
+
+// A build of the package.
+fn content_of(build: u8) -> [u8; CONTENT] {
+    let mut content = [0u8; CONTENT];
+    fill(&mut content, build);
+    content
 }
 
 // The image starts with the package.
@@ -357,22 +363,39 @@ fn front_is(image: &[u8], content: &[u8]) -> bool {
 
 // A gateway for the package, as V1.0. Its check code is the package's check.
 fn gateway_for(content: &[u8]) -> Gateway {
-    let started = Gateway::start(*b"V1.0\0\0\0\0\0\0\0\0\0\0\0\0", 32, content, true);
+    let started = Gateway::start(*b"V1.0\0\0\0\0\0\0\0\0\0\0\0\0", SIZE, content, true);
     let gateway = started.gateway;
     gateway
 }
 
-// The device goes on with a new gateway.
-fn with_package(pair: Pair, content: &[u8]) -> Pair {
-    with_gateway(pair, gateway_for(content), 0)
+// The device goes on with a new gateway, for a build.
+fn with_build(pair: Pair, build: u8) -> Pair {
+    let content = content_of(build);
+    let gateway = gateway_for(&content);
+    let mut next = wrote(pair, 0);
+    next.gateway = gateway;
+    next.content = content;
+    next
 }
 
-// A fresh device at V0.9, and a gateway for the package.
-fn fresh(content: &[u8]) -> Pair {
+// A fresh device at V0.9, and a gateway for a build.
+fn fresh(build: u8) -> Pair {
     let made = Device::new(*b"V0.9\0\0\0\0\0\0\0\0\0\0\0\0");
     let device = made.device;
-    let gateway = gateway_for(content);
+    let content = content_of(build);
+    let gateway = gateway_for(&content);
+    let image = [0u8; IMAGE];
+    let map = [0u8; MAP];
+    let up = [0u8; BUFFERS * UP];
+    let down = [0u8; BUFFERS * DOWN];
     Pair {
+        up,
+        down,
+        use_up: 0,
+        use_down: 0,
+        content,
+        image,
+        map,
         device,
         gateway,
         sent: 0,
@@ -405,151 +428,56 @@ fn print_front(same: bool) {
 }
 
 // The rest of a stage's line.
-fn print_end(pair: Pair, image: &[u8], content: &[u8]) {
+fn print_end(pair: Pair) {
     print_count(b": ", pair.sent);
     print_count(b" messages sent, ", pair.given);
     io::write_all(STDOUT_FILENO, b" given");
     print_device(pair.device);
     print_gateway(pair.gateway);
-    print_front(front_is(image, content));
+    let image = pair.image;
+    let content = pair.content;
+    print_front(front_is(&image, &content));
 }
 
-fn stored(pair: Pair) -> u32 {
+// What the device holds, after a label.
+fn print_stored(label: &[u8], pair: Pair) {
     let device = pair.device;
-    device.stored as u32
+    print_count(label, device.stored as u32);
 }
 
-// The clean run of 01, from the query to success.
-fn clean_run(
-    pair: Pair,
-    content: &[u8],
-    image: &mut [u8],
-    map: &mut [u8],
-    down: &mut [u8],
-    up: &mut [u8],
-) -> Pair {
-    let announced = announce(pair, content, image, map, down, up);
-    complete(announced, content, image, map, down, up)
-}
-
-// Half of a package.
-fn half(
-    pair: Pair,
-    content: &[u8],
-    image: &mut [u8],
-    map: &mut [u8],
-    down: &mut [u8],
-    up: &mut [u8],
-) -> Pair {
-    let announced = announce(pair, content, image, map, down, up);
-    download(announced, 150, content, image, map, down, up)
-}
-
-// What a fresh device holds of half of a package.
-fn hold(content: &[u8], image: &mut [u8], map: &mut [u8], down: &mut [u8], up: &mut [u8]) -> Pair {
-    let held = half(fresh(content), content, image, map, down, up);
-    print_count(b", held ", stored(held));
+// Half of the build 1, by a fresh device.
+fn half() -> Pair {
+    let held = download(announce(fresh(1)), HALF);
+    print_stored(b", held ", held);
     held
 }
 
-// What the device holds once a package is announced by a gateway of its own.
-fn announce_next(
-    pair: Pair,
-    content: &[u8],
-    image: &mut [u8],
-    map: &mut [u8],
-    down: &mut [u8],
-    up: &mut [u8],
-) -> Pair {
-    let announced = announce(with_package(pair, content), content, image, map, down, up);
-    print_count(b", after the next announcement ", stored(announced));
-    announced
+// A build of a new gateway, to success.
+fn go_on(pair: Pair, build: u8) -> Pair {
+    let announced = announce(with_build(pair, build));
+    print_stored(b", after the next announcement ", announced);
+    complete(announced)
 }
 
-// The package of a new gateway, to success.
-fn go_on(
-    pair: Pair,
-    content: &[u8],
-    image: &mut [u8],
-    map: &mut [u8],
-    down: &mut [u8],
-    up: &mut [u8],
-) -> Pair {
-    let announced = announce_next(pair, content, image, map, down, up);
-    complete(announced, content, image, map, down, up)
-}
-
-// Half of a package, and then one to success.
-fn half_then(
-    first: &[u8],
-    second: &[u8],
-    image: &mut [u8],
-    map: &mut [u8],
-    down: &mut [u8],
-    up: &mut [u8],
-) -> Pair {
-    let held = hold(first, image, map, down, up);
-    go_on(held, second, image, map, down, up)
-}
-
+// The clean run of 01, from the query to success.
 fn clean_stage() {
-    let mut content = [0u8; 9617];
-    let mut image = [0u8; 9632];
-    let mut map = [0u8; 38];
-    let mut down = [0u8; 511];
-    let mut up = [0u8; 26];
-    fill(&mut content, 1);
-    let pair = fresh(&content);
-    let ended = clean_run(pair, &content, &mut image, &mut map, &mut down, &mut up);
     io::write_all(STDOUT_FILENO, b"clean run");
-    print_end(ended, &image, &content);
+    print_end(complete(announce(fresh(1))));
 }
 
 fn lossy_stage() {
-    let mut content = [0u8; 9617];
-    let mut image = [0u8; 9632];
-    let mut map = [0u8; 38];
-    let mut down = [0u8; 2044];
-    let mut up = [0u8; 104];
-    fill(&mut content, 1);
-    let pair = fresh(&content);
-    let ended = lossy_run(
-        pair,
-        65536,
-        &content,
-        &mut image,
-        &mut map,
-        &mut down,
-        &mut up,
-    );
     io::write_all(STDOUT_FILENO, b"losses, repeats, reorderings");
-    print_end(ended, &image, &content);
+    print_end(lossy_run(fresh(1), LOSSY));
 }
 
 fn resumed_stage() {
-    let mut content = [0u8; 9617];
-    let mut image = [0u8; 9632];
-    let mut map = [0u8; 38];
-    let mut down = [0u8; 511];
-    let mut up = [0u8; 26];
-    fill(&mut content, 1);
     io::write_all(STDOUT_FILENO, b"interrupted and resumed");
-    let ended = half_then(&content, &content, &mut image, &mut map, &mut down, &mut up);
-    print_end(ended, &image, &content);
+    print_end(go_on(half(), 1));
 }
 
 fn recut_stage() {
-    let mut first = [0u8; 9617];
-    let mut second = [0u8; 9617];
-    let mut image = [0u8; 9632];
-    let mut map = [0u8; 38];
-    let mut down = [0u8; 511];
-    let mut up = [0u8; 26];
-    fill(&mut first, 1);
-    fill(&mut second, 2);
     io::write_all(STDOUT_FILENO, b"recut of the version");
-    let ended = half_then(&first, &second, &mut image, &mut map, &mut down, &mut up);
-    print_end(ended, &image, &second);
+    print_end(go_on(half(), 2));
 }
 
 fn main() {
