@@ -8,6 +8,8 @@ use Rattle.exchange.proofs.ask_device.Lts as lts
 use Rattle.device.proofs.next_message.Reads as next-message-reads
 use Rattle.exchange.proofs.wrote.Reads as wrote-reads
 
+-- The lengths of up and down, a Pair's first fields, are part of what is known of the parameter.
+
 -- src/main.rt:92:14
 mul-at : tie.Need-mul-at
 mul-at c = search needs
@@ -34,7 +36,12 @@ part-up-start c = search needs
 
 -- src/main.rt:96:64
 part-up-end : tie.Need-part-up-end
-part-up-end c = omega (arith, length-unmapped ℕ (c .before .before .before .before .before .before .args .pair .up) _ (c .before .before .before .before .before .before .good .0 .1 .1 .0 .1 .0 .1))
+part-up-end c =
+    omega (
+      arith,
+      length-unmapped ℕ (c .before .before .before .before .before .before .args .pair .up) _
+          (c .before .before .before .before .before .before .good .0 .1 .1 .0 .1 .0 .1),
+    )
 
 -- src/main.rt:96:9
 next-message-requires : tie.Need-next-message-requires

@@ -8,6 +8,8 @@ use Rattle.exchange.proofs.ask_gateway.Lts as lts
 use Rattle.exchange.proofs.wrote.Reads as wrote-reads
 use Rattle.gateway.proofs.next_message.Reads as next-message-reads
 
+-- The lengths of up and down, a Pair's first fields, are part of what is known of the parameter.
+
 -- src/main.rt:104:14
 mul-at : tie.Need-mul-at
 mul-at c = search needs
@@ -30,7 +32,12 @@ part-down-start c = search needs
 
 -- src/main.rt:107:62
 part-down-end : tie.Need-part-down-end
-part-down-end c = omega (arith, length-unmapped ℕ (c .before .before .before .before .args .pair .down) _ (c .before .before .before .before .good .0 .1 .1 .1 .0 .1 .0 .1))
+part-down-end c =
+    omega (
+      arith,
+      length-unmapped ℕ (c .before .before .before .before .args .pair .down) _
+          (c .before .before .before .before .good .0 .1 .1 .1 .0 .1 .0 .1),
+    )
 
 -- src/main.rt:107:9
 next-message-requires : tie.Need-next-message-requires
