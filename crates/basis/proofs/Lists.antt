@@ -8,7 +8,8 @@ use mathlib.Core.Path.{_≡_, refl, sym, _∙_, ap, ap₂}
 use mathlib.Core.Bool.{Bool, true, false, false≢true, true≢false}
 use mathlib.Core.List.{List, [], _∷_, _++_, append-assoc}
 use lib.Dec.{eqb}
-use lib.ListN.{length, take, drop, getD, set, length-append, length-take, length-drop, length-set, take-append-drop, drop-of-length-le, replicate, List·getD-eq-default}
+use lib.ListN.{length, take, drop, getD, set, length-append, length-take, length-drop, length-set, take-append-drop, drop-of-length-le, replicate}
+use lib.ListN.{List·getD-eq-default}
 use lib.Seq.{drop-cons, take-at, drop-at, drop-append-add, drop-drop, take-all, length-take-le, getD-drop, take-length, set-append-left}
 use borrow.Author.Tests.{eqb-true, eq-eqb, ne-eqb}
 use Rattle.basis.specs.Choice.{oneOf}
@@ -46,7 +47,8 @@ same-swap xs ys e = at (same ys xs) refl
     at false t = t
 
 -- two lists by what is left of them from a place on
-pub same-later : (xs ys : List ℕ) (i : ℕ) → i < length xs → i < length ys → getD xs i 0 ≡ getD ys i 0 → same (drop i xs) (drop i ys) ≡ same (drop (i + 1) xs) (drop (i + 1) ys)
+pub same-later : (xs ys : List ℕ) (i : ℕ) → i < length xs → i < length ys → getD xs i 0 ≡ getD ys i 0 → same (drop i xs) (drop i ys)
+    ≡ same (drop (i + 1) xs) (drop (i + 1) ys)
 unfolding same
 same-later xs ys i h k e = rw (drop-cons xs i 0, drop-cons ys i 0, eq-eqb (getD xs i 0) (getD ys i 0) e, add-one)
 
@@ -157,7 +159,14 @@ module _ (xs : List ℕ) (at : ℕ) (h : Bytes xs) where
 pub patched-over : (p xs o : List ℕ) (at : ℕ) → length p ≡ at → patched at xs (over p o) ≡ over (p ++ xs) o
 unfolding patched over
 patched-over p xs o at e =
-    rw (take-at p (drop (length p) o) at e, ← e, drop-append-add p (drop (length p) o) (length xs), drop-drop (length xs) (length p) o, length-append p xs, append-assoc)
+    rw (
+      take-at p (drop (length p) o) at e,
+      ← e,
+      drop-append-add p (drop (length p) o) (length xs),
+      drop-drop (length xs) (length p) o,
+      length-append p xs,
+      append-assoc,
+    )
 
 pub patched-front : (xs o : List ℕ) → patched 0 xs o ≡ over xs o
 unfolding patched over
@@ -172,7 +181,8 @@ patched-is-over at xs o h = rw (length-append, length-take-le at o h, append-ass
 pub patched-patched : (at next : ℕ) (xs ys o : List ℕ) → at ≤ length o → at + length xs ≡ next → patched next ys (patched at xs o) ≡ patched at (xs ++ ys) o
 patched-patched at next xs ys o h e =
     let front : length (take at o ++ xs) ≡ next = simp length-append (omega (arith, length-take-le at o h)) in
-    ap (patched next ys) (patched-is-over at xs o h) ∙ patched-over (take at o ++ xs) ys o next front ∙ ap (λ (p : List ℕ). over p o) (append-assoc (take at o) xs ys)
+    ap (patched next ys) (patched-is-over at xs o h) ∙ patched-over (take at o ++ xs) ys o next front
+    ∙ ap (λ (p : List ℕ). over p o) (append-assoc (take at o) xs ys)
     ∙ sym (patched-is-over at (xs ++ ys) o h)
 
 -- a front over a front of the same length

@@ -151,7 +151,8 @@ unfolding setBits
 setBits-mark index map zero room l new = absurd (not-suc-le-zero l)
 setBits-mark index map (suc n) room l new = grows (λ l. setBits-mark index map n room l new) (ℕ-discrete n index)
   where
-    grows : (index < n → setBits (mark index map) n ≡ suc (setBits map n)) → Dec (n ≡ index) → pick (marked (mark index map) n) (suc (setBits (mark index map) n)) (setBits (mark index map) n)
+    grows : (index < n → setBits (mark index map) n ≡ suc (setBits map n)) → Dec (n ≡ index)
+        → pick (marked (mark index map) n) (suc (setBits (mark index map) n)) (setBits (mark index map) n)
         ≡ suc (pick (marked map n) (suc (setBits map n)) (setBits map n))
     grows more (yes e) =
         let now : marked (mark index map) n ≡ true = rw e (mark-same index map room) in

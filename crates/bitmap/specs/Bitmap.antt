@@ -1,10 +1,10 @@
 -- The map of stored fragments: bit index mod 8 of byte index/8, lowest first. Assumes nothing.
-use Prim.Native.Nat.{ℕ, zero, suc, _+_, _*_, _/_, _%_, _^_}
-use mathlib.Core.Bool.{Bool, _&&_}
-use mathlib.Core.List.{List, _++_}
+use Prim.Native.Nat.{ℕ, zero, suc, _/_, _%_, _^_}
+use mathlib.Core.Bool.{Bool}
+use mathlib.Core.List.{List}
 use lib.Dec.{eqb}
 use lib.Bits.{bitOr}
-use lib.ListN.{drop, getD, set, replicate}
+use lib.ListN.{getD, set, replicate}
 use Rattle.basis.specs.Choice.{pick}
 use Rattle.basis.specs.Bytes.{over}
 

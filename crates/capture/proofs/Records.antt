@@ -1,5 +1,5 @@
 -- A record is read as it was written, and what is read as one stands in the capture byte for byte. Assumes nothing.
-use Prim.Native.Nat.{ℕ, suc, _+_, _-_, _*_, _/_, _%_, _≤_, _<_}
+use Prim.Native.Nat.{ℕ, suc, _+_, _*_, _/_, _%_, _≤_, _<_}
 use native.Mathlib.Nat.{add-assoc, add-zero}
 use native.Mathlib.Omega.{arith}
 use mathlib.Core.Path.{_≡_, refl, sym, _∙_, ap}
@@ -42,7 +42,8 @@ module _ (before : List ℕ) (toDevice : Bool) (message rest : List ℕ) where
 
   mark-read : markOf toDevice ≡ wordAt capture (length before)
   unfolding recordBytes
-  mark-read = sym (ap (wordAt capture) (sym (add-zero (length before))) ∙ word-behind before (recordBytes toDevice message ++ rest) 0 ∙ halves (markOf toDevice))
+  mark-read = sym (ap (wordAt capture) (sym (add-zero (length before))) ∙ word-behind before (recordBytes toDevice message ++ rest) 0
+      ∙ halves (markOf toDevice))
 
   length-read : length message ≡ wordAt capture (length before + 2)
   unfolding recordBytes
@@ -69,7 +70,8 @@ length-within : (capture : List ℕ) (start count : ℕ) → start + count ≤ l
 length-within capture start count h = simp (length-take, length-drop) (omega arith)
 
 -- the bytes before a message, and two WORDs whose bytes they are
-head-of : (capture : List ℕ) (at : ℕ) → part capture at headLength ≡ getD capture at 0 ∷ getD capture (at + 1) 0 ∷ getD capture (at + 2) 0 ∷ getD capture (at + 2 + 1) 0 ∷ []
+head-of : (capture : List ℕ) (at : ℕ) → part capture at headLength
+    ≡ getD capture at 0 ∷ getD capture (at + 1) 0 ∷ getD capture (at + 2) 0 ∷ getD capture (at + 2 + 1) 0 ∷ []
 unfolding part
 head-of capture at =
     let one : suc at ≡ at + 1 = omega arith in
@@ -92,8 +94,15 @@ stands {toDevice} {start} {count} capture at bytes e = from-found (is-found capt
   where
     from-found : Found capture at toDevice start count → take (headLength + count) (drop at capture) ≡ recordBytes toDevice (partOf capture start count)
     from-found f =
-        rw (take-add headLength count (drop at capture), drop-drop headLength at capture, ← part-within capture at headLength (omega arith), ← f .behind, head-of)
-        (words _ _ _ _ _ _ (partOf capture start count) (bytes (at + 1)) (bytes (at + 2 + 1)) (f .mark) (f .counted ∙ sym (length-within capture start count (f .within))))
+        rw (
+          take-add headLength count (drop at capture),
+          drop-drop headLength at capture,
+          ← part-within capture at headLength (omega arith),
+          ← f .behind,
+          head-of,
+        )
+        (words _ _ _ _ _ _ (partOf capture start count) (bytes (at + 1)) (bytes (at + 2 + 1)) (f .mark)
+        (f .counted ∙ sym (length-within capture start count (f .within))))
 
 pub recorded : Recorded
 recorded =

@@ -4,14 +4,11 @@ use native.Mathlib.Nat.{sub-zero, add-zero, add-suc, suc-add, zero-add, le-of-su
 use native.Mathlib.Numerals.{add-one}
 use native.Mathlib.Omega.{arith}
 use mathlib.Core.Path.{_≡_, refl, sym, _∙_, ap}
-use mathlib.Core.Bool.{true, false}
 use mathlib.Core.List.{List, [], _∷_, _++_}
-use lib.Dec.{ltb}
 use lib.Bits.{bitXor, xor-lt}
-use lib.ListN.{length, take, drop, getD, set, length-set, drop-of-length-le}
+use lib.ListN.{length, take, drop, getD, drop-of-length-le}
 use lib.Seq.{drop-cons}
-use borrow.Author.Tests.{ltb-true, ltb-false}
-use Rattle.basis.specs.Choice.{pick}
+use borrow.Author.Tests.{ltb-true}
 use Rattle.basis.proofs.Choosing.{by-cases}
 use Rattle.basis.proofs.Lists.{rest-is}
 use Rattle.checksum.specs.Check.{doubled, entryOf, listed, entries, step, register, checkOf, zeroed, messageCheck}
@@ -34,7 +31,8 @@ doubled-fits e h = by-cases (λ (x : ℕ). x < 65536) (λ t. ltb-true (e * 2) 65
 
 pub entry-fits : (i : ℕ) → i < 256 → entryOf i < 65536
 unfolding entryOf
-entry-fits i h = doubled-fits _ (doubled-fits _ (doubled-fits _ (doubled-fits _ (doubled-fits _ (doubled-fits _ (doubled-fits _ (doubled-fits _ (omega arith))))))))
+entry-fits i h = doubled-fits _ (doubled-fits _ (doubled-fits _
+    (doubled-fits _ (doubled-fits _ (doubled-fits _ (doubled-fits _ (doubled-fits _ (omega arith))))))))
 
 -- ---- the register
 

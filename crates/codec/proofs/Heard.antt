@@ -10,7 +10,8 @@ use lib.Seq.{take-at, drop-at}
 use Rattle.basis.specs.Choice.{pick}
 use Rattle.basis.specs.Bytes.{wordAt, wordBytes}
 use Rattle.message.specs.declared.Fields.{Fields}
-use Rattle.message.specs.Messages.{DeviceMessage, deviceCode, deviceData, deviceFields, GatewayMessage, gatewayCode, gatewayData, gatewayFields, Table, toDevice, toGateway, found}
+use Rattle.message.specs.Messages.{DeviceMessage, deviceCode, deviceData, deviceFields, GatewayMessage, gatewayCode, gatewayData, gatewayFields, Table}
+use Rattle.message.specs.Messages.{toDevice, toGateway, found}
 use Rattle.codec.specs.Codec.{sealed, frame, bytesOf, readOf}
 use Rattle.codec.proofs.RoundTrip.{FoundIn, Tells, read-tells}
 

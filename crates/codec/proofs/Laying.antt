@@ -1,8 +1,8 @@
 -- Laws of the parts of a message's data: each message is laid out as the code's table says. Assumes nothing.
-use Prim.Native.Nat.{ℕ, _+_, _≤_, _<_, min}
+use Prim.Native.Nat.{ℕ, _≤_}
 use native.Mathlib.Omega.{arith}
 use mathlib.Core.Path.{_≡_, refl, sym, _∙_, ap}
-use mathlib.Core.List.{List, [], _∷_, _++_, append-nil}
+use mathlib.Core.List.{List, _++_, append-nil}
 use lib.ListN.{length, take, length-append, length-take}
 use lib.Seq.{take-all}
 use Rattle.basis.specs.Bytes.{wordBytes}
@@ -30,13 +30,15 @@ unfolding assembled deviceCode deviceData
 device-query n = record { within = omega arith; code = λ v d. refl; bytes = λ v d e f. refl }
 
 pub device-announce : (n size total code : ℕ)
-    → Laid toDevice (withWords (withVersion (bare 20)) (wordBytes size ++ (wordBytes total ++ wordBytes code)) 6) n (deviceMessage (ToDevice.Announce size total code))
+    → Laid toDevice (withWords (withVersion (bare 20)) (wordBytes size ++ (wordBytes total ++ wordBytes code)) 6) n
+    (deviceMessage (ToDevice.Announce size total code))
 unfolding assembled deviceCode deviceData
 device-announce n size total code =
     record { within = omega arith; code = λ v d. refl; bytes = λ v d e f. rw (all 16 v e) }
 
 pub device-fragment : (n result index : ℕ)
-    → Laid toDevice (withData (withWords (withResult (bare 21) result) (wordBytes index ++ (wordBytes 0 ++ wordBytes 0)) 2) n) n (deviceMessage (ToDevice.Fragment result index))
+    → Laid toDevice (withData (withWords (withResult (bare 21) result) (wordBytes index ++ (wordBytes 0 ++ wordBytes 0)) 2) n) n
+    (deviceMessage (ToDevice.Fragment result index))
 unfolding assembled deviceCode deviceData
 device-fragment n result index = record { within = omega arith; code = λ v d. refl; bytes = λ v d e f. rw (all n d f) }
 
@@ -67,7 +69,8 @@ unfolding assembled gatewayCode gatewayData
 gateway-announce result = record { within = omega arith; code = λ v d. refl; bytes = λ v d e f. refl }
 
 pub gateway-fragment : (index : ℕ)
-    → Laid toGateway (withWords (withVersion (bare 21)) (wordBytes index ++ (wordBytes 0 ++ wordBytes 0)) 2) 0 (λ v d. gatewayMessage (ToGateway.FragmentRequest index) v)
+    → Laid toGateway (withWords (withVersion (bare 21)) (wordBytes index ++ (wordBytes 0 ++ wordBytes 0)) 2) 0
+    (λ v d. gatewayMessage (ToGateway.FragmentRequest index) v)
 unfolding assembled gatewayCode gatewayData
 gateway-fragment index = record { within = omega arith; code = λ v d. refl; bytes = λ v d e f. rw (all 16 v e) }
 

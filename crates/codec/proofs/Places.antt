@@ -1,12 +1,9 @@
 -- Laws of the fields of a message at their places: what the code reads of a whole message is what the table reads of its data. Assumes
 -- nothing.
-use Prim.Native.Nat.{ℕ, _+_, _≤_, _<_}
-use native.Mathlib.Omega.{arith}
-use mathlib.Core.Path.{_≡_, refl, sym, _∙_, ap}
-use mathlib.Core.Bool.{Bool, true, false}
-use mathlib.Core.List.{List, [], _∷_}
-use lib.Dec.{eqb}
-use lib.ListN.{length, drop, getD}
+use Prim.Native.Nat.{ℕ}
+use mathlib.Core.Path.{_≡_}
+use mathlib.Core.List.{List}
+use lib.ListN.{drop, getD}
 use lib.Seq.{getD-drop, drop-drop}
 use borrow.Author.Tests.{ne-eqb}
 use Rattle.basis.specs.Choice.{pick}
@@ -46,7 +43,15 @@ module _ (m : List ℕ) (code : ℕ) (e : code ≡ getD m 3 0) where
   pub device-result : (result : ℕ) → Other code → result ≡ getD m 8 0 → DeviceMessage.resultReply result ≡ deviceFields (getD m 3 0) (drop 8 m)
   unfolding deviceFields pick
   device-result result o p =
-      rw (← e, ne-eqb code 19 (o .0 .0 .0 .0 .1), ne-eqb code 20 (o .0 .0 .0 .1), ne-eqb code 21 (o .0 .0 .1), ne-eqb code 22 (o .0 .1), ne-eqb code 23 (o .1), p)
+      rw (
+        ← e,
+        ne-eqb code 19 (o .0 .0 .0 .0 .1),
+        ne-eqb code 20 (o .0 .0 .0 .1),
+        ne-eqb code 21 (o .0 .0 .1),
+        ne-eqb code 22 (o .0 .1),
+        ne-eqb code 23 (o .1),
+        p,
+      )
       (simp getD-drop)
 
   -- ---- toward the gateway
@@ -59,7 +64,8 @@ module _ (m : List ℕ) (code : ℕ) (e : code ≡ getD m 3 0) where
   unfolding gatewayFields pick
   gateway-announce result k p = rw (← e, k, p) (simp getD-drop)
 
-  pub gateway-fragment : (index : ℕ) → code ≡ 21 → index ≡ wordAt m 24 → GatewayMessage.fragmentRequest (part m 8 16) index ≡ gatewayFields (getD m 3 0) (drop 8 m)
+  pub gateway-fragment : (index : ℕ) → code ≡ 21 → index ≡ wordAt m 24 → GatewayMessage.fragmentRequest (part m 8 16) index
+      ≡ gatewayFields (getD m 3 0) (drop 8 m)
   unfolding gatewayFields pick
   gateway-fragment index k p = rw (← e, k, p) (simp (part-drop, getD-drop))
 
@@ -71,8 +77,17 @@ module _ (m : List ℕ) (code : ℕ) (e : code ≡ getD m 3 0) where
   unfolding gatewayFields pick
   gateway-execute result k p = rw (← e, k, p) (simp getD-drop)
 
-  pub gateway-result : (result : ℕ) → Other code → result ≡ getD m 8 0 → GatewayMessage.resultReport result (part m 9 16) ≡ gatewayFields (getD m 3 0) (drop 8 m)
+  pub gateway-result : (result : ℕ) → Other code → result ≡ getD m 8 0 → GatewayMessage.resultReport result (part m 9 16)
+      ≡ gatewayFields (getD m 3 0) (drop 8 m)
   unfolding gatewayFields pick
   gateway-result result o p =
-      rw (← e, ne-eqb code 19 (o .0 .0 .0 .0 .1), ne-eqb code 20 (o .0 .0 .0 .1), ne-eqb code 21 (o .0 .0 .1), ne-eqb code 22 (o .0 .1), ne-eqb code 23 (o .1), p)
+      rw (
+        ← e,
+        ne-eqb code 19 (o .0 .0 .0 .0 .1),
+        ne-eqb code 20 (o .0 .0 .0 .1),
+        ne-eqb code 21 (o .0 .0 .1),
+        ne-eqb code 22 (o .0 .1),
+        ne-eqb code 23 (o .1),
+        p,
+      )
       (simp (part-drop, getD-drop))

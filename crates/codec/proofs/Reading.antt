@@ -1,10 +1,10 @@
 -- Laws of reading: the fields of a message are its data exactly where the lengths agree, and what follows for a reader that tests no
 -- more than that. Assumes nothing.
-use Prim.Native.Nat.{ℕ, suc, _+_, _-_, _≤_, _<_}
+use Prim.Native.Nat.{ℕ, _+_, _≤_}
 use native.Mathlib.Omega.{arith}
-use mathlib.Core.Path.{_≡_, refl, sym, _∙_, ap}
+use mathlib.Core.Path.{_≡_, refl, sym, _∙_}
 use mathlib.Core.Bool.{Bool, true, false, _&&_}
-use mathlib.Core.List.{List, [], _∷_, _++_}
+use mathlib.Core.List.{List}
 use lib.Dec.{eqb}
 use lib.ListN.{length, drop, getD, length-drop}
 use lib.Seq.{getD-drop}
@@ -14,7 +14,7 @@ use Rattle.basis.specs.Bytes.{Bytes, part, same}
 use Rattle.basis.proofs.Choosing.{pick-yes, pick-no, by-cases, eqb-alike}
 use Rattle.basis.proofs.Lists.{part-rest, same-part, word-high, word-low}
 use Rattle.message.specs.Recognition.{recognition}
-use Rattle.message.specs.Messages.{DeviceMessage, deviceData, deviceFields, GatewayMessage, gatewayData, gatewayFields, Table, toDevice, toGateway, Reading, found, refused}
+use Rattle.message.specs.Messages.{DeviceMessage, deviceData, deviceFields, GatewayMessage, gatewayData, gatewayFields, Table, Reading, found, refused}
 use Rattle.codec.specs.Codec.{readOf}
 use Rattle.message.specs.Coded.{validOf}
 use Rattle.codec.specs.Parts.{dataOf}

@@ -42,7 +42,8 @@ module _ (t : Table) (supported pcp : Bool) (bytes : List ℕ) where
       let m : t .Message = t .fields (getD bytes 3 0) (drop 8 bytes) in
       by-cases Tells
       (λ z. by-cases Tells
-      (λ ok. record { number = eqb-true _ _ z; fields = refl; content = same-true _ _ (and-right (t .valid m) _ ok); valid = and-left _ _ ok }) (λ _. omega arith))
+      (λ ok. record { number = eqb-true _ _ z; fields = refl; content = same-true _ _ (and-right (t .valid m) _ ok); valid = and-left _ _ ok })
+      (λ _. omega arith))
       (λ z. omega (arith, eqb-false (recognition supported pcp bytes) 0 z, recognition-number supported pcp bytes))
 
 -- ---- any lawful column

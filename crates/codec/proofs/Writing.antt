@@ -1,23 +1,24 @@
 -- Laws of writing: the header, the parts behind it, the check put in, and a writer's answers. Assumes nothing.
-use Prim.Native.Nat.{ℕ, suc, _+_, _-_, _/_, _%_, _≤_, _<_}
+use Prim.Native.Nat.{ℕ, _+_, _-_, _/_, _%_, _≤_, _<_}
 use native.Mathlib.Nat.{sub-zero}
 use native.Mathlib.Omega.{arith}
-use mathlib.Core.Path.{_≡_, refl, sym, _∙_, ap, ap₂}
-use mathlib.Core.Bool.{Bool, true, false, _&&_, false≢true, true≢false}
+use mathlib.Core.Path.{_≡_, refl, sym, _∙_, ap}
+use mathlib.Core.Bool.{true, false, false≢true}
 use mathlib.Core.List.{List, [], _∷_, _++_, append-assoc}
 use lib.Dec.{ltb}
-use lib.ListN.{length, take, drop, getD, set, length-append, length-take, length-set}
+use lib.ListN.{length, take, set, length-append, length-take, length-set}
 use lib.Seq.{length-take-le}
 use borrow.Author.Tests.{lt-ltb, le-ltb}
-use Rattle.basis.specs.Choice.{pick, oneOf}
+use Rattle.basis.specs.Choice.{oneOf}
 use Rattle.basis.specs.Bytes.{wordBytes, over, patched}
-use Rattle.basis.proofs.Choosing.{pick-yes, pick-no, by-cases, and-left, and-right}
-use Rattle.basis.proofs.Lists.{patched-patched, patched-over, over-over, over-take, set-over, take-over, length-over}
+use Rattle.basis.proofs.Choosing.{pick-yes, pick-no, and-left, and-right}
+use Rattle.basis.proofs.Lists.{patched-patched, patched-over, over-over, over-take, set-over, take-over}
 use Rattle.checksum.specs.Check.{messageCheck}
 use Rattle.codec.specs.declared.parts.Parts.{Parts}
 use Rattle.message.specs.Limits.{isWord, deviceRoom, gatewayRoom}
 use Rattle.message.specs.Version.{goodVersion}
-use Rattle.message.specs.Messages.{DeviceMessage, deviceData, deviceValid, fragmentOk, installCode, GatewayMessage, gatewayData, gatewayValid, Table, toDevice, toGateway, Reading, found, refused}
+use Rattle.message.specs.Messages.{DeviceMessage, deviceData, deviceValid, fragmentOk, installCode, GatewayMessage, gatewayData, gatewayValid, Table, toDevice}
+use Rattle.message.specs.Messages.{toGateway, Reading, found, refused}
 use Rattle.codec.specs.Codec.{sealed, frame, bytesOf, Sent, writeOf}
 use Rattle.message.specs.Coded.{validOf}
 use Rattle.codec.specs.Parts.{codeOf, dataOf, lengthOf, assembled, Within, Laid, Framed}
@@ -31,13 +32,15 @@ unfolding sealed
 length-sealed m = simp length-set
 
 -- as the code stores it, of a message that is the first n bytes of the buffer
-pub sealed-in : (n check : ℕ) (o : List ℕ) → 8 ≤ n → n ≤ length o → check ≡ messageCheck (take (n - 0) o) → set (set o 4 (check / 256)) 5 (check % 256) ≡ over (sealed (take n o)) o
+pub sealed-in : (n check : ℕ) (o : List ℕ) → 8 ≤ n → n ≤ length o → check ≡ messageCheck (take (n - 0) o)
+    → set (set o 4 (check / 256)) 5 (check % 256) ≡ over (sealed (take n o)) o
 unfolding sealed
 sealed-in n check o h k e =
     let l : length (take n o) ≡ n = length-take-le n o k in
     let four : 4 < length (take n o) = omega arith in
     let five : 5 < length (set (take n o) 4 (check / 256)) = simp length-set (omega arith) in
-    ap (λ (q : List ℕ). set (set q 4 (check / 256)) 5 (check % 256)) (sym (over-take n o k)) ∙ ap (λ (q : List ℕ). set q 5 (check % 256)) (set-over (take n o) o 4 (check / 256) four)
+    ap (λ (q : List ℕ). set (set q 4 (check / 256)) 5 (check % 256)) (sym (over-take n o k))
+    ∙ ap (λ (q : List ℕ). set q 5 (check % 256)) (set-over (take n o) o 4 (check / 256) four)
     ∙ set-over (set (take n o) 4 (check / 256)) o 5 (check % 256) five ∙ rw (e, sub-zero n)
 
 -- ---- the parts, one behind the other
@@ -103,7 +106,8 @@ unfolding deviceValid deviceData
 device-fits (refused n) h = absurd (false≢true h)
 device-fits (found DeviceMessage.query) h = omega arith
 device-fits (found (DeviceMessage.announce f)) h = simp length-append (omega (arith, text-length (f .version) (and-left _ _ h)))
-device-fits (found (DeviceMessage.fragment result index bytes)) h = omega (arith, fragment-length result bytes (and-right (isWord index) (fragmentOk result bytes) h))
+device-fits (found (DeviceMessage.fragment result index bytes)) h = omega
+    (arith, fragment-length result bytes (and-right (isWord index) (fragmentOk result bytes) h))
 device-fits (found (DeviceMessage.downloadReply result)) h = omega arith
 device-fits (found DeviceMessage.execute) h = omega arith
 device-fits (found (DeviceMessage.resultReply result)) h = omega arith
@@ -111,12 +115,14 @@ device-fits (found (DeviceMessage.resultReply result)) h = omega arith
 pub gateway-fits : (r : Reading GatewayMessage) → validOf toGateway r ≡ true → 8 + length (dataOf toGateway r) ≤ deviceRoom
 unfolding gatewayValid gatewayData
 gateway-fits (refused n) h = absurd (false≢true h)
-gateway-fits (found (GatewayMessage.queryReply result version)) h = omega (arith, text-length version (and-right (oneOf result (0x00 ∷ [])) (goodVersion version) h))
+gateway-fits (found (GatewayMessage.queryReply result version)) h = omega
+    (arith, text-length version (and-right (oneOf result (0x00 ∷ [])) (goodVersion version) h))
 gateway-fits (found (GatewayMessage.announceReply result)) h = omega arith
 gateway-fits (found (GatewayMessage.fragmentRequest version index)) h = simp length-append (omega (arith, text-length version (and-left _ _ h)))
 gateway-fits (found (GatewayMessage.downloadReport result)) h = omega arith
 gateway-fits (found (GatewayMessage.executeReply result)) h = omega arith
-gateway-fits (found (GatewayMessage.resultReport result version)) h = omega (arith, text-length version (and-right (installCode result) (goodVersion version) h))
+gateway-fits (found (GatewayMessage.resultReport result version)) h = omega
+    (arith, text-length version (and-right (installCode result) (goodVersion version) h))
 
 -- ---- a writer's answers, for either table
 
@@ -132,7 +138,8 @@ module _ (t : Table) (o : List ℕ) where
   write-bad (found m) h k = sym (pick-no (ltb (length o) (t .room)) _ _ (le-ltb (length o) (t .room) h) ∙ pick-no (t .valid m) _ _ k)
   write-bad (refused n) h k = sym (pick-no (ltb (length o) (t .room)) _ _ (le-ltb (length o) (t .room) h))
 
-  pub write-done : (r : Reading (t .Message)) (n : ℕ) (after : List ℕ) → t .room ≤ length o → validOf t r ≡ true → Framed (frame (codeOf t r) (dataOf t r)) o n after
+  pub write-done : (r : Reading (t .Message)) (n : ℕ) (after : List ℕ) → t .room ≤ length o → validOf t r ≡ true
+      → Framed (frame (codeOf t r) (dataOf t r)) o n after
       → _≡_ {A = Sent} (record { number = 0; length = n; buffer = after }) (writeOf t r o)
   unfolding writeOf bytesOf
   write-done (found m) n after h k f =

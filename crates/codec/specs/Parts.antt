@@ -25,16 +25,50 @@ abbrev pub bare : ℕ → Parts
 bare code = record { code = code; result = 0; «result_len» = 0; «version_len» = 0; words = replicate 6 0; «words_len» = 0; «data_len» = 0 }
 
 abbrev pub withResult : Parts → ℕ → Parts
-withResult p result = record { code = p .code; result = result; «result_len» = 1; «version_len» = p .«version_len»; words = p .words; «words_len» = p .«words_len»; «data_len» = p .«data_len» }
+withResult p result = record {
+  code = p .code;
+  result = result;
+  «result_len» = 1;
+  «version_len» = p .«version_len»;
+  words = p .words;
+  «words_len» = p
+      .«words_len»;
+  «data_len» = p .«data_len»;
+}
 
 abbrev pub withVersion : Parts → Parts
-withVersion p = record { code = p .code; result = p .result; «result_len» = p .«result_len»; «version_len» = 16; words = p .words; «words_len» = p .«words_len»; «data_len» = p .«data_len» }
+withVersion p = record {
+  code = p .code;
+  result = p .result;
+  «result_len» = p .«result_len»;
+  «version_len» = 16;
+  words = p .words;
+  «words_len» = p
+      .«words_len»;
+  «data_len» = p .«data_len»;
+}
 
 abbrev pub withWords : Parts → List ℕ → ℕ → Parts
-withWords p words n = record { code = p .code; result = p .result; «result_len» = p .«result_len»; «version_len» = p .«version_len»; words = words; «words_len» = n; «data_len» = p .«data_len» }
+withWords p words n = record {
+  code = p .code;
+  result = p .result;
+  «result_len» = p .«result_len»;
+  «version_len» = p .«version_len»;
+  words = words;
+  «words_len» = n;
+  «data_len» = p .«data_len»;
+}
 
 abbrev pub withData : Parts → ℕ → Parts
-withData p n = record { code = p .code; result = p .result; «result_len» = p .«result_len»; «version_len» = p .«version_len»; words = p .words; «words_len» = p .«words_len»; «data_len» = n }
+withData p n = record {
+  code = p .code;
+  result = p .result;
+  «result_len» = p .«result_len»;
+  «version_len» = p .«version_len»;
+  words = p .words;
+  «words_len» = p .«words_len»;
+  «data_len» = n;
+}
 
 -- ---- the data that the parts make, with version text and fragment data beside them
 

@@ -39,7 +39,8 @@ pub fn version_place(message: ToGateway) -> usize
 
 // The message that the code and the data can only be.
 fn device_candidate(message: &[u8]) -> ToDevice
-    ensures { λ r. ⌜ deviceMessage r (part (now (message .entry)) 8 16) (drop 11 (now (message .entry))) ≡ found (deviceFields (getD (now (message .entry)) 3 0) (drop 8 (now (message .entry)))) ⌝ }
+    ensures { λ r. ⌜ deviceMessage r (part (now (message .entry)) 8 16) (drop 11 (now (message .entry)))
+        ≡ found (deviceFields (getD (now (message .entry)) 3 0) (drop 8 (now (message .entry)))) ⌝ }
 {
     let code = basis::byte_at(message, 3);
     let result = basis::byte_at(message, 8);
@@ -61,7 +62,8 @@ fn device_candidate(message: &[u8]) -> ToDevice
 }
 
 fn gateway_candidate(message: &[u8]) -> ToGateway
-    ensures { λ r. ⌜ gatewayMessage r (part (now (message .entry)) (versionPlace r) 16) ≡ found (gatewayFields (getD (now (message .entry)) 3 0) (drop 8 (now (message .entry)))) ⌝ }
+    ensures { λ r. ⌜ gatewayMessage r (part (now (message .entry)) (versionPlace r) 16)
+        ≡ found (gatewayFields (getD (now (message .entry)) 3 0) (drop 8 (now (message .entry)))) ⌝ }
 {
     let code = basis::byte_at(message, 3);
     let result = basis::byte_at(message, 8);
@@ -77,7 +79,8 @@ fn gateway_candidate(message: &[u8]) -> ToGateway
 
 // A message toward the device. Its version text is at 8, its fragment data what `fragment_data` gives.
 pub fn read_to_device(supported: bool, pcp: bool, message: &[u8]) -> ToDevice
-    ensures { λ r. ⌜ deviceMessage r (part (now (message .entry)) 8 16) (drop 11 (now (message .entry))) ≡ readOf toDevice supported pcp (now (message .entry)) ⌝ }
+    ensures { λ r. ⌜ deviceMessage r (part (now (message .entry)) 8 16) (drop 11 (now (message .entry)))
+        ≡ readOf toDevice supported pcp (now (message .entry)) ⌝ }
 {
     let number = message::recognise(supported, pcp, message);
     if number != 0 {

@@ -49,7 +49,9 @@ fn put_first(out: &mut [u8], at: usize, src: &[u8], n: usize)
 fn put_fields(out: &mut [u8], parts: Parts, version: [u8; 16])
     requires { ⌜ Within parts (parts .«data_len») ⌝ }
     requires { ⌜ 8 + (parts .«result_len» + (parts .«version_len» + parts .«words_len»)) ≤ length (now out) ⌝ }
-    ensures { λ _. ⌜ now (out .exit) ≡ patched 8 (take (parts .«result_len») (parts .result ∷ []) ++ (take (parts .«version_len») version ++ take (parts .«words_len») (parts .words))) (now (out .entry)) ⌝ }
+    ensures { λ _. ⌜ now (out .exit)
+        ≡ patched 8 (take (parts .«result_len») (parts .result ∷ []) ++ (take (parts .«version_len») version ++ take (parts .«words_len»)
+        (parts .words))) (now (out .entry)) ⌝ }
 {
     let result = [parts.result];
     let words = parts.words;

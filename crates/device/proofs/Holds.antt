@@ -9,7 +9,6 @@ use mathlib.Core.List.{List}
 use lib.Dec.{eqb}
 use lib.ListN.{length, take, drop}
 use borrow.Author.Tests.{ne-eqb}
-use Rattle.basis.specs.Choice.{pick}
 use Rattle.basis.specs.Bytes.{patched}
 use Rattle.basis.proofs.Choosing.{pick-no}
 use Rattle.basis.proofs.Lists.{length-patched}

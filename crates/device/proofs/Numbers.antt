@@ -7,7 +7,8 @@ use mathlib.Core.List.{List}
 use borrow.Author.Tests.{eqb-true, ltb-false}
 use Rattle.basis.specs.Choice.{pick, refusal}
 use Rattle.basis.proofs.Choosing.{by-cases, refusal-among}
-use Rattle.message.specs.Messages.{DeviceMessage, query, announce, fragment, downloadReply, execute, resultReply, GatewayMessage, Table, Reading, found, refused, toDevice, toGateway}
+use Rattle.message.specs.Messages.{DeviceMessage, query, announce, fragment, downloadReply, execute, resultReply, GatewayMessage, Table, Reading, found}
+use Rattle.message.specs.Messages.{refused, toDevice, toGateway}
 use Rattle.codec.specs.Codec.{readOf, said}
 use Rattle.message.specs.Recognition.{recognition}
 use Rattle.device_record.specs.declared.Device.{Device}
@@ -15,7 +16,8 @@ use Rattle.device_record.specs.Record.{loading}
 use Rattle.bitmap.specs.Bitmap.{lowestMissing}
 use Rattle.device.specs.declared.Finished.{Finished}
 use Rattle.device.specs.Rules as rules
-use Rattle.device.specs.Rules.{After, onQuery, onAnnounce, onFragment, onDownloadReply, onExecute, onResultReply, begin, store, handle, receiveOf, wanted, nextMessageOf, installFinishedOf}
+use Rattle.device.specs.Rules.{After, onQuery, onAnnounce, onFragment, onDownloadReply, onExecute, onResultReply, begin, store, handle, receiveOf, wanted}
+use Rattle.device.specs.Rules.{nextMessageOf, installFinishedOf}
 use Rattle.bitmap.proofs.Bitmaps.{lowest-exists}
 use Rattle.device.proofs.Holds.{Rule}
 use Rattle.device.proofs.Sound.{Download, Sound, sound-record, sound-room}

@@ -87,7 +87,8 @@ wanted-allowed d map e =
     (λ p. by-cases Sayable
     (λ l.
     let r : Ranged d = k .ranged (λ z. omega (arith, eqb-true (d .phase) loading p)) in
-    and-both (k .target) (lt-ltb (lowestMissing map (d .fields .total)) 65536 (omega (arith, r .total, ltb-true (lowestMissing map (d .fields .total)) (d .fields .total) l))))
+    and-both (k .target) (lt-ltb (lowestMissing map (d .fields .total)) 65536
+    (omega (arith, r .total, ltb-true (lowestMissing map (d .fields .total)) (d .fields .total) l))))
     (λ _. tt))
     (λ _. by-cases Sayable (λ _. refl)
     (λ _. by-cases Sayable (λ _. refl) (λ _. by-cases Sayable (λ _. and-both (k .outcome) (k .running)) (λ _. tt))))

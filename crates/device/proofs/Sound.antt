@@ -18,7 +18,8 @@ use Rattle.message.specs.Version.{goodVersion}
 use Rattle.message.specs.Messages.{fragment, installCode, deviceValid, found}
 use Rattle.message.specs.declared.Fields.{Fields}
 use Rattle.device_record.specs.declared.Device.{Device}
-use Rattle.device_record.specs.Record.{idle, loading, loaded, acked, failed, installing, reporting, fresh, inPhase, begun, withOutcome, downloadOk, recordOk, roomOk, mapBytes}
+use Rattle.device_record.specs.Record.{idle, loading, loaded, acked, failed, installing, reporting, fresh, inPhase, begun, withOutcome, downloadOk, recordOk}
+use Rattle.device_record.specs.Record.{roomOk, mapBytes}
 use Rattle.bitmap.specs.Bitmap.{marked, mark, cleared, setBits}
 use Rattle.device.specs.Rules.{completion}
 use Rattle.bitmap.proofs.Bitmaps.{setBits-le, setBits-mark, setBits-cleared}

@@ -1,6 +1,6 @@
 -- The rule that at the place of every stored index stand bytes of which something holds: Held's fragments before the start, the package's
 -- stretches after it, and nothing in particular for the count. Assumes nothing.
-use Prim.Native.Nat.{ℕ, _+_, _*_, _-_, _≤_, _<_, suc, min}
+use Prim.Native.Nat.{ℕ, _+_, _*_, _-_, _≤_, _<_, min}
 use native.Mathlib.Nat.{mul-comm, suc-mul}
 use native.Mathlib.Omega.{arith}
 use mathlib.Core.Path.{_≡_, sym, _∙_, ap}

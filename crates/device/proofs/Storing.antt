@@ -24,7 +24,8 @@ unfolding holding
 loading-holds phase e = and-both (le-leb loading phase (omega arith)) (le-leb phase acked (omega arith))
 
 module _ (d : Device) (image map : List ℕ) (index : ℕ) (content : List ℕ)
-    (tests : (recordOk d ≡ true) × ((d .phase ≡ loading) × ((roomOk d image map ≡ true) × ((index < d .fields .total) × (fragmentLength (d .fields) index (length content) ≡ true))))) where
+    (tests : (recordOk d ≡ true) × ((d .phase ≡ loading) × ((roomOk d image map ≡ true)
+    × ((index < d .fields .total) × (fragmentLength (d .fields) index (length content) ≡ true))))) where
   ranged : Ranged d
   ranged = record-kept d (tests .0) .ranged (λ e. omega (arith, tests .1 .0))
 

@@ -6,26 +6,31 @@ use mathlib.Core.Path.{_≡_, refl, sym, _∙_, ap}
 use mathlib.Core.Bool.{Bool, true, false, _&&_, _||_, not, false≢true}
 use mathlib.Core.List.{List, [], _∷_}
 use mathlib.Core.Logic.{_⊎_, inl, inr}
-use lib.Dec.{eqb, leb}
+use lib.Dec.{eqb}
 use lib.ListN.{length, take}
-use borrow.Author.Tests.{eqb-true, eqb-false, ne-eqb, leb-false, ltb-true, not-true}
-use Rattle.basis.specs.Choice.{pick, refusal, oneOf}
+use borrow.Author.Tests.{eqb-true, eqb-false, ne-eqb, ltb-true, not-true}
+use Rattle.basis.specs.Choice.{pick, oneOf}
 use Rattle.basis.specs.Bytes.{same, over, patched}
 use Rattle.basis.proofs.Choosing.{by-cases, pick-no, and-left, and-right, or-either, passed}
 use Rattle.basis.proofs.Lists.{same-true, take-over}
-use Rattle.message.specs.Limits.{deviceRoom, isWord}
-use Rattle.message.specs.Messages.{DeviceMessage, query, announce, fragment, downloadReply, execute, resultReply, GatewayMessage, queryReply, announceReply, fragmentRequest, downloadReport, executeReply, resultReport, installCode, deviceValid, fragmentOk, Reading, found, refused, toDevice, toGateway}
+use Rattle.message.specs.Limits.{isWord}
+use Rattle.message.specs.Messages.{DeviceMessage, query, announce, fragment, downloadReply, execute, resultReply, GatewayMessage, queryReply, announceReply}
+use Rattle.message.specs.Messages.{fragmentRequest, downloadReport, executeReply, resultReport, installCode, deviceValid, fragmentOk, Reading, found, refused}
+use Rattle.message.specs.Messages.{toDevice, toGateway}
 use Rattle.codec.specs.Codec.{sealed, frame, bytesOf, readOf, said}
 use Rattle.message.specs.declared.Fields.{Fields}
 use Rattle.codec.proofs.Heard.{read}
 use Rattle.device_decisions.proofs.Accepted.{Accepted, accepted-facts}
 use Rattle.device_record.specs.declared.Device.{Device}
-use Rattle.device_record.specs.Record.{idle, loading, loaded, acked, failed, installing, reporting, holding, inPhase, begun, withFragment, withOutcome, recordOk, roomOk, mapBytes, askRefusal, finishRefusal}
+use Rattle.device_record.specs.Record.{idle, loading, loaded, acked, failed, installing, reporting, holding, inPhase, begun, withFragment, withOutcome}
+use Rattle.device_record.specs.Record.{recordOk, mapBytes, askRefusal, finishRefusal}
 use Rattle.device_decisions.proofs.Tested.{fragment-passed}
 use Rattle.bitmap.specs.Bitmap.{marked, mark, cleared, lowestMissing}
 use Rattle.device.specs.declared.Finished.{Finished}
 use Rattle.device.specs.Rules as rules
-use Rattle.device.specs.Rules.{After, announceResult, resumes, fragmentLength, fragmentNumber, completion, executeResult, refuse, moved, replied, begin, store, onQuery, onAnnounce, onFragment, onDownloadReply, onExecute, onResultReply, handle, receiveOf, wanted, nextMessageOf, installFinishedOf}
+use Rattle.device.specs.Rules.{After, announceResult, resumes, fragmentLength, completion, executeResult, refuse, moved, replied, begin, store, onQuery}
+use Rattle.device.specs.Rules.{onAnnounce, onFragment, onDownloadReply, onExecute, onResultReply, handle, receiveOf, wanted, nextMessageOf}
+use Rattle.device.specs.Rules.{installFinishedOf}
 use Rattle.device_decisions.specs.Decisions.{lastAfter}
 
 -- ---- calls, and what they leave

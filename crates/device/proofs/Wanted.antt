@@ -22,7 +22,8 @@ spoken d = pick (eqb (d .phase) reporting) (d .running) (d .fields .version)
 
 module _ (d : Device) (map : List ℕ) where
   pub asks-loading : (r : ToGateway) → d .phase ≡ loading
-      → r ≡ pick (ltb (lowestMissing map (d .fields .total)) (d .fields .total)) (ToGateway.FragmentRequest (lowestMissing map (d .fields .total))) (ToGateway.Refused 29)
+      → r ≡ pick (ltb (lowestMissing map (d .fields .total)) (d .fields .total)) (ToGateway.FragmentRequest (lowestMissing map (d .fields .total)))
+      (ToGateway.Refused 29)
       → gatewayMessage r (spoken d) ≡ wanted d map
   unfolding wanted
   asks-loading r p e =

@@ -1,22 +1,24 @@
 -- The device's steps: 01, "The head", with the refusals of "Numbers returned" in their order. Assumes nothing.
 use Prim.Native.Nat.{ℕ, _+_, _*_}
 use mathlib.Core.Bool.{Bool}
-use mathlib.Core.List.{List, [], _∷_}
-use lib.Dec.{eqb, leb, ltb}
+use mathlib.Core.List.{List}
+use lib.Dec.{eqb, ltb}
 use lib.ListN.{length}
-use Rattle.basis.specs.Choice.{pick, refusal}
+use Rattle.basis.specs.Choice.{pick}
 use Rattle.basis.specs.Numbers.{handled, noUse, badRecord}
 use Rattle.basis.specs.Bytes.{over, patched}
-use Rattle.message.specs.Limits.{deviceRoom}
-use Rattle.message.specs.Messages.{DeviceMessage, query, announce, fragment, downloadReply, execute, resultReply, GatewayMessage, queryReply, announceReply, fragmentRequest, downloadReport, executeReply, resultReport, installCode, Reading, found, refused, toDevice, toGateway}
+use Rattle.message.specs.Messages.{DeviceMessage, query, announce, fragment, downloadReply, execute, resultReply, GatewayMessage, queryReply, announceReply}
+use Rattle.message.specs.Messages.{fragmentRequest, downloadReport, executeReply, resultReport, Reading, found, refused, toDevice, toGateway}
 use Rattle.codec.specs.Codec.{Sent, bytesOf, readOf, said}
 use Rattle.message.specs.declared.Fields.{Fields}
 use Rattle.device_record.specs.declared.Device.{Device}
-use Rattle.device_record.specs.Record.{idle, loading, loaded, acked, failed, installing, reporting, conditionOk, inPhase, begun, withFragment, withOutcome, mapBytes, receiveRefusal, askRefusal, finishRefusal}
-use Rattle.bitmap.specs.Bitmap.{marked, mark, cleared, lowestMissing}
+use Rattle.device_record.specs.Record.{idle, loading, loaded, acked, failed, installing, reporting, inPhase, begun, withFragment, withOutcome, mapBytes}
+use Rattle.device_record.specs.Record.{receiveRefusal, askRefusal, finishRefusal}
+use Rattle.bitmap.specs.Bitmap.{mark, cleared, lowestMissing}
 use Rattle.device.specs.declared.Finished.{Finished}
 use Rattle.device_decisions.specs.Decisions.{lastAfter}
-unfoldable pub use Rattle.device_decisions.specs.Decisions.{announceResult, sameFields, resumes, fragmentLength, fragmentNumber, passes, completion, executeResult}
+unfoldable pub use Rattle.device_decisions.specs.Decisions.{announceResult, sameFields, resumes, fragmentLength}
+unfoldable pub use Rattle.device_decisions.specs.Decisions.{fragmentNumber, passes, completion, executeResult}
 
 -- what a call leaves: the number, the length of the reply, the record, and the three buffers
 pub record After : Type 0 where

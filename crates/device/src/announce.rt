@@ -36,7 +36,8 @@ pub(crate) fn on_announce(
     requires { ⌜ deviceRoom ≤ length (now reply) ⌝ }
     requires { ⌜ conditionOk condition ≡ true ⌝ }
     requires { ⌜ Awaited 20 message ⌝ }
-    ensures { λ r. ⌜ ((bytes : List ℕ) → afterCall r (now (image .entry)) (now (map .exit)) (now (reply .exit)) ≡ handle device (now (image .entry)) (now (map .entry)) (now (reply .entry)) condition (deviceMessage message version bytes)) ⌝ }
+    ensures { λ r. ⌜ ((bytes : List ℕ) → afterCall r (now (image .entry)) (now (map .exit)) (now (reply .exit))
+        ≡ handle device (now (image .entry)) (now (map .entry)) (now (reply .entry)) condition (deviceMessage message version bytes)) ⌝ }
 {
     let ToDevice::Announce { size, total, code } = message else {
         return refused(device, refusal(message));

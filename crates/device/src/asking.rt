@@ -6,6 +6,7 @@ use message::ToGateway;
 ghost use mathlib.Core.Path.{_≡_};
 ghost use mathlib.Core.Bool.{true};
 ghost use lib.Dec.{eqb, ltb};
+ghost use Rattle.basis.specs.Numbers.{badRecord};
 ghost use Rattle.basis.specs.Choice.{pick};
 ghost use Rattle.bitmap.specs.Bitmap.{lowestMissing};
 ghost use Rattle.message.specs.Coded.{gatewayMessage};
@@ -27,7 +28,8 @@ pub(crate) fn spoken_version(device: Device) -> [u8; 16]
 
 // The next fragment, where one is missing.
 fn wanted_fragment(total: u16, map: &[u8]) -> ToGateway
-    ensures { λ r. ⌜ r ≡ pick (ltb (lowestMissing (now (map .entry)) total) total) (ToGateway.FragmentRequest (lowestMissing (now (map .entry)) total)) (ToGateway.Refused 29) ⌝ }
+    ensures { λ r. ⌜ r ≡ pick (ltb (lowestMissing (now (map .entry)) total) total)
+        (ToGateway.FragmentRequest (lowestMissing (now (map .entry)) total)) (ToGateway.Refused badRecord) ⌝ }
 {
     let index = bitmap::lowest_missing(map, total as usize);
     if index < total as usize {

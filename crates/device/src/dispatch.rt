@@ -35,7 +35,9 @@ pub(crate) fn handle(
     requires { ⌜ recordOk device ≡ true ⌝ }
     requires { ⌜ roomOk device (now image) (now map) ≡ true ⌝ }
     requires { ⌜ Awaited (getD (now message) 3 0) reading ⌝ }
-    ensures { λ r. ⌜ afterCall r (now (image .exit)) (now (map .exit)) (now (reply .exit)) ≡ handle device (now (image .entry)) (now (map .entry)) (now (reply .entry)) condition (deviceMessage reading (part (now (message .entry)) 8 16) (drop 11 (now (message .entry)))) ⌝ }
+    ensures { λ r. ⌜ afterCall r (now (image .exit)) (now (map .exit)) (now (reply .exit))
+        ≡ handle device (now (image .entry)) (now (map .entry)) (now (reply .entry)) condition (deviceMessage reading (part (now
+        (message .entry)) 8 16) (drop 11 (now (message .entry)))) ⌝ }
 {
     let code = basis::byte_at(message, 3);
     match code {

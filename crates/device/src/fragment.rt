@@ -30,7 +30,8 @@ fn store(device: Device, index: u16, content: &[u8], image: &mut [u8], map: &mut
     requires { ⌜ roomOk device (now image) (now map) ≡ true ⌝ }
     requires { ⌜ index < device .fields .total ⌝ }
     requires { ⌜ fragmentLength (device .fields) index (length (now content)) ≡ true ⌝ }
-    ensures { λ r. ⌜ ((reply : List ℕ) → afterCall r (now (image .exit)) (now (map .exit)) reply ≡ store device (now (image .entry)) (now (map .entry)) reply index (now (content .entry))) ⌝ }
+    ensures { λ r. ⌜ ((reply : List ℕ) → afterCall r (now (image .exit)) (now (map .exit)) reply
+        ≡ store device (now (image .entry)) (now (map .entry)) reply index (now (content .entry))) ⌝ }
 {
     let fields = device.fields;
     let at = basis::product(index, fields.size);
@@ -57,7 +58,8 @@ pub(crate) fn on_fragment(
     requires { ⌜ recordOk device ≡ true ⌝ }
     requires { ⌜ roomOk device (now image) (now map) ≡ true ⌝ }
     requires { ⌜ Awaited 21 message ⌝ }
-    ensures { λ r. ⌜ ((reply version : List ℕ) (condition : ℕ) → afterCall r (now (image .exit)) (now (map .exit)) reply ≡ handle device (now (image .entry)) (now (map .entry)) reply condition (deviceMessage message version (now (content .entry)))) ⌝ }
+    ensures { λ r. ⌜ ((reply version : List ℕ) (condition : ℕ) → afterCall r (now (image .exit)) (now (map .exit)) reply
+        ≡ handle device (now (image .entry)) (now (map .entry)) reply condition (deviceMessage message version (now (content .entry)))) ⌝ }
 {
     let ToDevice::Fragment { result, index } = message else {
         return refused(device, refusal(message));

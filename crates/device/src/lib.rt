@@ -43,7 +43,8 @@ pub fn receive(
     map: &mut [u8],
     reply: &mut [u8],
 ) -> Answer
-    ensures { λ r. ⌜ afterCall r (now (image .exit)) (now (map .exit)) (now (reply .exit)) ≡ receiveOf device (now (image .entry)) (now (map .entry)) (now (reply .entry)) supported pcp condition (now (message .entry)) ⌝ }
+    ensures { λ r. ⌜ afterCall r (now (image .exit)) (now (map .exit)) (now (reply .exit))
+        ≡ receiveOf device (now (image .entry)) (now (map .entry)) (now (reply .entry)) supported pcp condition (now (message .entry)) ⌝ }
 {
     let number = device_record::receiving(device, condition, image, map, reply);
     if number != 0 {

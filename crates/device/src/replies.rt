@@ -79,7 +79,8 @@ pub(crate) fn answered(
 ) -> Answer
     requires { ⌜ deviceRoom ≤ length (now reply) ⌝ }
     requires { ⌜ Sayable (gatewayMessage message version) ⌝ }
-    ensures { λ r. ⌜ ((image map : List ℕ) (m : GatewayMessage) → gatewayMessage message version ≡ found m → afterCall r image map (now (reply .exit)) ≡ replied device image map (now (reply .entry)) device m) ⌝ }
+    ensures { λ r. ⌜ ((image map : List ℕ) (m : GatewayMessage) → gatewayMessage message version ≡ found m → afterCall r image map (now (reply .exit))
+        ≡ replied device image map (now (reply .entry)) device m) ⌝ }
 {
     let said = say(message, version, reply);
     Answer {
@@ -94,7 +95,8 @@ pub(crate) fn on_query(device: Device, message: ToDevice, reply: &mut [u8]) -> A
     requires { ⌜ deviceRoom ≤ length (now reply) ⌝ }
     requires { ⌜ recordOk device ≡ true ⌝ }
     requires { ⌜ Awaited 19 message ⌝ }
-    ensures { λ r. ⌜ ((image map version bytes : List ℕ) (condition : ℕ) → afterCall r image map (now (reply .exit)) ≡ handle device image map (now (reply .entry)) condition (deviceMessage message version bytes)) ⌝ }
+    ensures { λ r. ⌜ ((image map version bytes : List ℕ) (condition : ℕ) → afterCall r image map (now (reply .exit))
+        ≡ handle device image map (now (reply .entry)) condition (deviceMessage message version bytes)) ⌝ }
 {
     let ToDevice::Query = message else {
         return refused(device, refusal(message));
@@ -106,7 +108,8 @@ pub(crate) fn on_query(device: Device, message: ToDevice, reply: &mut [u8]) -> A
 // 22: the gateway has taken the report of a download.
 pub(crate) fn on_download_reply(device: Device, message: ToDevice) -> Answer
     requires { ⌜ Awaited 22 message ⌝ }
-    ensures { λ r. ⌜ ((image map reply version bytes : List ℕ) (condition : ℕ) → afterCall r image map reply ≡ handle device image map reply condition (deviceMessage message version bytes)) ⌝ }
+    ensures { λ r. ⌜ ((image map reply version bytes : List ℕ) (condition : ℕ) → afterCall r image map reply
+        ≡ handle device image map reply condition (deviceMessage message version bytes)) ⌝ }
 {
     let ToDevice::DownloadReply(result) = message else {
         return refused(device, refusal(message));
@@ -130,7 +133,8 @@ pub(crate) fn on_execute(
 ) -> Answer
     requires { ⌜ deviceRoom ≤ length (now reply) ⌝ }
     requires { ⌜ Awaited 23 message ⌝ }
-    ensures { λ r. ⌜ ((image map version bytes : List ℕ) → afterCall r image map (now (reply .exit)) ≡ handle device image map (now (reply .entry)) condition (deviceMessage message version bytes)) ⌝ }
+    ensures { λ r. ⌜ ((image map version bytes : List ℕ) → afterCall r image map (now (reply .exit))
+        ≡ handle device image map (now (reply .entry)) condition (deviceMessage message version bytes)) ⌝ }
 {
     let ToDevice::Execute = message else {
         return refused(device, refusal(message));
@@ -149,7 +153,8 @@ pub(crate) fn on_execute(
 // 24: the gateway has taken the report.
 pub(crate) fn on_result_reply(device: Device, message: ToDevice) -> Answer
     requires { ⌜ Awaited 24 message ⌝ }
-    ensures { λ r. ⌜ ((image map reply version bytes : List ℕ) (condition : ℕ) → afterCall r image map reply ≡ handle device image map reply condition (deviceMessage message version bytes)) ⌝ }
+    ensures { λ r. ⌜ ((image map reply version bytes : List ℕ) (condition : ℕ) → afterCall r image map reply
+        ≡ handle device image map reply condition (deviceMessage message version bytes)) ⌝ }
 {
     let ToDevice::ResultReply(_) = message else {
         return refused(device, refusal(message));

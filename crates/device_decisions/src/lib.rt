@@ -16,7 +16,8 @@ ghost use mathlib.Core.Path.{_≡_};
 ghost use Prim.Native.Nat.{_+_, _*_, _-_};
 ghost use lib.Dec.{eqb, leb};
 ghost use Rattle.basis.specs.Choice.{pick};
-ghost use Rattle.device_decisions.specs.Decisions.{announceResult, sameFields, resumes, fragmentLength, fragmentNumber, lastAfter, passes, completion, executeResult};
+ghost use Rattle.device_decisions.specs.Decisions.{announceResult, sameFields, resumes, fragmentLength, fragmentNumber, lastAfter, passes, completion};
+ghost use Rattle.device_decisions.specs.Decisions.{executeResult};
 
 // 20: what an announcement is answered with, tests in order.
 pub fn announce_result(

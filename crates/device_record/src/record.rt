@@ -5,7 +5,8 @@ use message::Fields;
 ghost use mathlib.Core.Path.{_≡_};
 ghost use lib.Dec.{eqb};
 ghost use Rattle.basis.specs.Choice.{pick};
-ghost use Rattle.device_record.specs.Record.{fresh, inPhase, begun, withFragment, withOutcome, holding, conditionOk, downloadOk, recordOk, mapBytes, roomOk};
+ghost use Rattle.device_record.specs.Record.{fresh, inPhase, begun, withFragment, withOutcome, holding, conditionOk, downloadOk, recordOk, mapBytes};
+ghost use Rattle.device_record.specs.Record.{roomOk};
 
 // Idle, with a version that runs and is the target too.
 pub(crate) fn fresh(version: [u8; 16]) -> Device

@@ -2,11 +2,10 @@
 use Prim.Native.Nat.{ℕ, _<_}
 use mathlib.Core.Path.{_≡_, refl, sym, _∙_, ap}
 use mathlib.Core.Bool.{Bool, true}
-use mathlib.Core.List.{List, [], _∷_}
+use mathlib.Core.List.{List}
 use lib.Dec.{eqb, leb}
 use lib.ListN.{length, getD}
 use borrow.Author.Tests.{leb-true, eqb-true, eq-eqb, ne-eqb}
-use Rattle.basis.specs.Choice.{refusal}
 use Rattle.basis.specs.Bytes.{part}
 use Rattle.basis.proofs.Choosing.{pick-yes, pick-no, by-cases, passed}
 use Rattle.codec.proofs.RoundTrip.{gateway-round-trip}

@@ -20,7 +20,8 @@ use Rattle.codec.specs.Codec.{said}
 use Rattle.message.specs.Coded.{gatewayMessage}
 use Rattle.gateway.specs.declared.Gateway.{Gateway}
 use Rattle.gateway.specs.Record.{ask, offer, serve, run, totalOf, fragmentOf, inPhase, endedWith}
-use Rattle.gateway.specs.Rules.{asked, serving, fragmentReply, refuse, moved, replied, onQueryReply, onAnnounceReply, onFragmentRequest, onDownloadReport, onExecuteReply, onResultReport, handle}
+use Rattle.gateway.specs.Rules.{asked, serving, fragmentReply, refuse, moved, replied, onQueryReply, onAnnounceReply, onFragmentRequest, onDownloadReport}
+use Rattle.gateway.specs.Rules.{onExecuteReply, onResultReport, handle}
 use Rattle.gateway.specs.Inner.{withReply, numberOf, OfCode}
 
 -- ---- any reading but the one expected leaves with its number

@@ -5,11 +5,11 @@ use native.Mathlib.Nat.{lt-div-mul-add, le-div-iff-mul-le, div-lt-iff-lt-mul, mu
 use native.Mathlib.Omega.{arith}
 use mathlib.Core.Path.{_≡_, refl}
 use mathlib.Core.Bool.{Bool, true}
-use mathlib.Core.List.{List, [], _∷_}
+use mathlib.Core.List.{List}
 use lib.Dec.{eqb}
 use lib.ListN.{length, take, drop, length-take, length-drop}
 use borrow.Author.Tests.{eqb-true, eqb-false}
-use Rattle.basis.specs.Choice.{pick, refusal}
+use Rattle.basis.specs.Choice.{pick}
 use Rattle.basis.proofs.Choosing.{by-cases, passed}
 use Rattle.checksum.specs.Check.{checkOf}
 use Rattle.message.specs.Limits.{totalMax, sizeOk}

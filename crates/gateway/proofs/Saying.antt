@@ -87,7 +87,8 @@ offer-allowed g e h =
     and-both (s .version) (and-both (s .size) (and-both (and-both (le-leb _ _ u) (le-leb (totalOf (g .length) (g .size)) totalMax t)) (word-ok (g .code) h)))
 
 -- 80 and 81 carry the index and no data
-pub fragment-none : (result index : ℕ) → oneOf result (0x80 ∷ 0x81 ∷ []) ≡ true → (result ≡ 0 → ⊥) → index < 65536 → deviceValid (fragment result index []) ≡ true
+pub fragment-none : (result index : ℕ) → oneOf result (0x80 ∷ 0x81 ∷ []) ≡ true → (result ≡ 0 → ⊥) → index < 65536
+    → deviceValid (fragment result index []) ≡ true
 unfolding deviceValid fragmentOk
 fragment-none result index o n h = and-both (word-ok index h) (pick-no _ _ _ (ne-eqb _ _ n) ∙ and-both o refl)
 

@@ -2,18 +2,16 @@
 use Prim.Native.Nat.{ℕ}
 use mathlib.Core.Path.{_≡_, sym}
 use mathlib.Core.Bool.{Bool}
-use mathlib.Core.List.{List, [], _∷_}
+use mathlib.Core.List.{List}
 use lib.Dec.{eqb}
 use lib.ListN.{length, replicate}
 use borrow.Author.Tests.{eq-eqb, ne-eqb}
-use Rattle.basis.specs.Choice.{pick, refusal}
+use Rattle.basis.specs.Choice.{pick}
 use Rattle.basis.proofs.Choosing.{pick-yes, pick-no}
 use Rattle.checksum.specs.Check.{checkOf}
-use Rattle.message.specs.Limits.{sizeOk}
-use Rattle.message.specs.Version.{goodVersion}
 use Rattle.gateway.specs.declared.Gateway.{Gateway}
 use Rattle.gateway.specs.declared.Started.{Started}
-use Rattle.gateway.specs.Record.{lengthOk, started, startOf, startRefusal}
+use Rattle.gateway.specs.Record.{started, startOf, startRefusal}
 
 module _ (version : List ℕ) (size : ℕ) (content : List ℕ) (checked : Bool) (n : ℕ) (g : Gateway)
     (tested : n ≡ startRefusal version size (length content)) where

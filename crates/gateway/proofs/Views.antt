@@ -12,11 +12,13 @@ use borrow.Author.Tests.{eqb-true, ltb-true}
 use Rattle.basis.specs.Bytes.{same, over}
 use Rattle.basis.proofs.Choosing.{by-cases, and-left, and-right, or-either}
 use Rattle.basis.proofs.Lists.{same-true}
-use Rattle.message.specs.Messages.{DeviceMessage, query, announce, fragment, downloadReply, execute, resultReply, GatewayMessage, queryReply, announceReply, fragmentRequest, downloadReport, executeReply, resultReport, Reading, found, refused, toDevice, toGateway}
+use Rattle.message.specs.Messages.{DeviceMessage, query, announce, fragment, downloadReply, execute, resultReply, GatewayMessage, queryReply, announceReply}
+use Rattle.message.specs.Messages.{fragmentRequest, downloadReport, executeReply, resultReport, Reading, found, refused, toDevice, toGateway}
 use Rattle.codec.specs.Codec.{bytesOf, readOf, said}
 use Rattle.gateway.specs.declared.Gateway.{Gateway}
 use Rattle.gateway.specs.Record.{ask, offer, serve, run, totalOf, fragmentOf, offered, inPhase, endedWith}
-use Rattle.gateway.specs.Rules.{After, asked, serving, fragmentReply, refuse, onQueryReply, onAnnounceReply, onFragmentRequest, onDownloadReport, onExecuteReply, onResultReport, handle, receiveOf, wanted, nextMessageOf}
+use Rattle.gateway.specs.Rules.{After, asked, serving, fragmentReply, refuse, onQueryReply, onAnnounceReply, onFragmentRequest, onDownloadReport}
+use Rattle.gateway.specs.Rules.{onExecuteReply, onResultReport, handle, receiveOf, wanted, nextMessageOf}
 
 module _ (g : Gateway) (content : List ℕ) where
   -- a fragment is given in Serve or Run, and it is the package's for its index

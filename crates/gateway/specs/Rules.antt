@@ -1,17 +1,18 @@
 -- The gateway's steps: 01, "The gateway", with the refusals of "Numbers returned" in their order. Assumes nothing.
 use Prim.Native.Nat.{ℕ}
 use mathlib.Core.Bool.{Bool, _&&_, _||_}
-use mathlib.Core.List.{List, [], _∷_}
-use lib.Dec.{eqb, leb, ltb}
+use mathlib.Core.List.{List, []}
+use lib.Dec.{eqb, ltb}
 use lib.ListN.{length}
-use Rattle.basis.specs.Choice.{pick, refusal}
-use Rattle.basis.specs.Numbers.{noUse, badMemory, shortReply, badRecord}
+use Rattle.basis.specs.Choice.{pick}
+use Rattle.basis.specs.Numbers.{noUse}
 use Rattle.basis.specs.Bytes.{same, over}
-use Rattle.message.specs.Limits.{gatewayRoom}
-use Rattle.message.specs.Messages.{DeviceMessage, query, announce, fragment, downloadReply, execute, resultReply, GatewayMessage, queryReply, announceReply, fragmentRequest, downloadReport, executeReply, resultReport, Reading, found, refused, toDevice, toGateway}
+use Rattle.message.specs.Messages.{DeviceMessage, query, announce, fragment, downloadReply, execute, resultReply, GatewayMessage, queryReply, announceReply}
+use Rattle.message.specs.Messages.{fragmentRequest, downloadReport, executeReply, resultReport, Reading, found, refused, toDevice, toGateway}
 use Rattle.codec.specs.Codec.{Sent, bytesOf, readOf, said}
 use Rattle.gateway.specs.declared.Gateway.{Gateway}
-use Rattle.gateway.specs.Record.{ask, offer, serve, run, ended, success, alreadyRunning, notAccepted, downloadFailed, notExecuted, upgradeFailed, totalOf, fragmentOf, offered, inPhase, endedWith, callRefusal}
+use Rattle.gateway.specs.Record.{ask, offer, serve, run, success, alreadyRunning, notAccepted, downloadFailed, notExecuted, upgradeFailed, totalOf}
+use Rattle.gateway.specs.Record.{fragmentOf, offered, inPhase, endedWith, callRefusal}
 
 -- what a call leaves: the number, the length of the reply, the record, and the reply buffer
 pub record After : Type 0 where

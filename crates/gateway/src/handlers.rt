@@ -145,7 +145,8 @@ pub(crate) fn on_fragment_request(
 pub(crate) fn on_download_report(gateway: Gateway, message: ToGateway, reply: &mut [u8]) -> Answer
     requires { ⌜ OfCode 22 message ⌝ }
     requires { ⌜ gatewayRoom ≤ length (now reply) ⌝ }
-    ensures { λ r. ⌜ ((version content : List ℕ) → after r (now (reply .exit)) ≡ handle gateway content (now (reply .entry)) (gatewayMessage message version)) ⌝ }
+    ensures { λ r. ⌜ ((version content : List ℕ) → after r (now (reply .exit))
+        ≡ handle gateway content (now (reply .entry)) (gatewayMessage message version)) ⌝ }
 {
     let ToGateway::DownloadReport(result) = message else {
         return refused(gateway, number_of(message));

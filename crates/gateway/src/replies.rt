@@ -74,7 +74,8 @@ pub(crate) fn replied(
     reply: &mut [u8],
 ) -> Answer
     requires { ⌜ (gatewayRoom ≤ length (now reply)) × Sayable (deviceMessage message (gateway .version) (now content)) ⌝ }
-    ensures { λ r. ⌜ after r (now (reply .exit)) ≡ withReply gateway (said toDevice (deviceMessage message (gateway .version) (now (content .entry))) (now (reply .entry))) ⌝ }
+    ensures { λ r. ⌜ after r (now (reply .exit))
+        ≡ withReply gateway (said toDevice (deviceMessage message (gateway .version) (now (content .entry))) (now (reply .entry))) ⌝ }
 {
     let version = gateway.version;
     let said = say(message, version, content, reply);

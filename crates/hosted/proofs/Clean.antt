@@ -11,7 +11,8 @@ use Rattle.pcp.specs.Exports.{fact, textOf}
 use Rattle.upgrade.specs.Calls.{DeviceCall, given, asked, installed, GatewayCall, Call, atDevice, atGateway, Ends, next}
 use Rattle.upgrade.specs.Records.{DeviceEnd, deviceSays, deviceNumber, gatewaySays, records, World}
 use Rattle.upgrade.specs.Demand3.{deviceThen, start}
-use Rattle.upgrade.specs.Clean.{Reached, arriveAtDevice, arriveAtGateway, answeredByDevice, answeredByGateway, gatewayAsked, deviceAsked, UntilSilent, silent, spoken, ending, CleanStart, CleanRunOf}
+use Rattle.upgrade.specs.Clean.{Reached, arriveAtDevice, arriveAtGateway, answeredByDevice, answeredByGateway, gatewayAsked, deviceAsked, UntilSilent, silent}
+use Rattle.upgrade.specs.Clean.{spoken, ending, CleanStart, CleanRunOf}
 use Rattle.upgrade.proofs.CleanAllowed.{reached-start, gateway-asked, until-silent, at-end}
 use Rattle.upgrade.proofs.CleanRun.{clean-run}
 use Rattle.hosted.specs.Hosts.{deviceHostSays, deviceHostNumber, gatewayHostSays, hosts, Hosts, Fitting, deviceSeen, seen, callAs}

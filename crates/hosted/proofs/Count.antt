@@ -1,19 +1,17 @@
 -- The count of what hosts keep: that of the record in its bytes. Assumes nothing.
 use Prim.Native.Nat.{ℕ, _≤_}
-use mathlib.Core.Path.{_≡_, sym, _∙_, subst}
+use mathlib.Core.Path.{sym, _∙_}
 use mathlib.Core.Bool.{Bool}
 use mathlib.Core.List.{List, [], map}
 use lib.ListN.{length}
-use Rattle.device_record.specs.Record.{newOf}
 use Rattle.layout.specs.Layout.{deviceLength}
 use Rattle.pcp.specs.Exports.{fact, textOf}
-use Rattle.upgrade.specs.Fold.{after}
 use Rattle.upgrade.specs.Calls.{DeviceCall}
-use Rattle.upgrade.specs.Records.{DeviceEnd, deviceNext, deviceRecords}
+use Rattle.upgrade.specs.Records.{deviceNext, deviceRecords}
 use Rattle.upgrade.specs.Counted.{Counted, lentNext, Roomy}
 use Rattle.upgrade.proofs.Count.{count, room}
 use Rattle.hosted.specs.Hosts.{DeviceHost, deviceHosts, deviceHostNext, deviceSeen, deviceCallAs}
-use Rattle.hosted.specs.Hosted.{hostMade, HostMade, HostedCount, HostedRoom}
+use Rattle.hosted.specs.Hosted.{hostMade, HostedCount, HostedRoom}
 use Rattle.hosted.proofs.Shown.{shown}
 use Rattle.hosted.proofs.Runs.{device-room, device-next, device-number-is}
 use Rattle.hosted.proofs.Demand3.{made-number, made-room, made-seen}

@@ -1,6 +1,6 @@
 -- Demand 3 of what hosts keep: what it claims of the records in their bytes, it claims of them. Assumes nothing.
 use Prim.Native.Nat.{ℕ, _+_, _*_, _-_, _≤_}
-use mathlib.Core.Path.{_≡_, refl, sym, _∙_, ap, subst}
+use mathlib.Core.Path.{_≡_, sym, _∙_, ap, subst}
 use mathlib.Core.Bool.{Bool}
 use mathlib.Core.List.{List, [], _∷_, _++_, map, map-append}
 use lib.ListN.{length, take, drop}
@@ -21,9 +21,11 @@ use Rattle.upgrade.specs.Demand3.{Ready, start, deviceThen, gatewayThen}
 use Rattle.upgrade.proofs.Demand3.{demand-3, install-length}
 use Rattle.upgrade.proofs.Joined.{joined}
 use Rattle.hosted.specs.Hosts.{DeviceHost, deviceHostNext, gatewayHostNext, hosts, Hosts, Fitting, deviceSeen, seen, deviceCallAs, gatewayCallAs, callAs}
-use Rattle.hosted.specs.Hosted.{hostMade, HostMade, HostedBefore, deviceHostThen, gatewayHostThen, hostedStart, recordsBefore, HostedReady, HostedDemand3, HostedUpgrade, HostedInstallLength}
+use Rattle.hosted.specs.Hosted.{hostMade, HostMade, HostedBefore, deviceHostThen, gatewayHostThen, hostedStart, recordsBefore, HostedReady, HostedDemand3}
+use Rattle.hosted.specs.Hosted.{HostedUpgrade, HostedInstallLength}
 use Rattle.hosted.proofs.Shown.{shown, allowed-shown, Split, split-shown, Headed, head-shown}
-use Rattle.hosted.proofs.Runs.{kept-room, device-room, device-next, device-says, device-number-is, gateway-room, gateway-next, still-fitting, one-call, hosted-runs}
+use Rattle.hosted.proofs.Runs.{kept-room, device-room, device-next, device-says, device-number-is, gateway-room, gateway-next, still-fitting, one-call}
+use Rattle.hosted.proofs.Runs.{hosted-runs}
 
 -- ---- the two events, of hosts and of the records that they keep
 

@@ -1,5 +1,5 @@
 -- A run through the exports is the run over records that the same calls make. Assumes nothing.
-use Prim.Native.Nat.{ℕ, _+_, _*_, _/_, _%_, _≤_, _<_}
+use Prim.Native.Nat.{ℕ, _≤_, _<_}
 use native.Mathlib.Omega.{arith}
 use mathlib.Core.Path.{_≡_, refl, sym, _∙_, ap}
 use mathlib.Core.List.{List, _++_}
@@ -10,7 +10,8 @@ use Rattle.codec.specs.Codec.{Sent}
 use Rattle.device.specs.Rules as device
 use Rattle.gateway.specs.Rules as gateway
 use Rattle.layout.specs.Layout.{kept, deviceAt, deviceLength, gatewayAt, gatewayLength}
-use Rattle.pcp.specs.Exports.{fact, packed, Left, Asked, DeviceGiven, GatewayGiven, deviceKept, gatewayKept, deviceReceiveOf, deviceNextMessageOf, deviceInstallFinishedOf, gatewayReceiveOf, gatewayNextMessageOf}
+use Rattle.pcp.specs.Exports.{fact, packed, Left, Asked, DeviceGiven, GatewayGiven, deviceKept, gatewayKept, deviceReceiveOf, deviceNextMessageOf}
+use Rattle.pcp.specs.Exports.{deviceInstallFinishedOf, gatewayReceiveOf, gatewayNextMessageOf}
 use Rattle.pcp.specs.Exports as exports
 use Rattle.pcp.specs.Boundary.{numberIn, lengthIn}
 use Rattle.pcp.proofs.Calls.{long-enough}
@@ -18,7 +19,8 @@ use Rattle.pcp.proofs.Refusals.{device-number, device-ask-number, gateway-numbe
 use Rattle.pcp.proofs.Carrying.{records-carried}
 use Rattle.upgrade.specs.Calls.{aired, DeviceCall, given, asked, installed, GatewayCall, Call, atDevice, atGateway, next}
 use Rattle.upgrade.specs.Records.{deviceNext, deviceSays, deviceNumber, gatewayNext, gatewaySays, records}
-use Rattle.hosted.specs.Hosts.{DeviceHost, deviceHostNext, deviceHostSays, deviceHostNumber, deviceSeen, gatewayHostNext, gatewayHostSays, hosts, Hosts, Fitting, seen, deviceCallAs, gatewayCallAs, callAs, HostedRuns}
+use Rattle.hosted.specs.Hosts.{DeviceHost, deviceHostNext, deviceHostSays, deviceHostNumber, deviceSeen, gatewayHostNext, gatewayHostSays, hosts, Hosts}
+use Rattle.hosted.specs.Hosts.{Fitting, seen, deviceCallAs, gatewayCallAs, callAs, HostedRuns}
 use Rattle.hosted.proofs.Shown.{shown}
 
 -- ---- an answer taken apart; a buffer's room
@@ -51,7 +53,13 @@ module _ (h : DeviceHost) where
   device-next (given supported pcp condition message reply) r =
       let a : device.After = device.receiveOf (deviceAt (h .bytes)) (h .image) (h .map) reply (fact supported) (fact pcp) condition message in
       let e : deviceReceiveOf (h .bytes) (h .image) (h .map) reply supported pcp condition message
-      ≡ record { answer = packed (a .number) (a .length); bytes = deviceKept (h .bytes) (a .number) (a .device); image = a .image; map = a .map; reply = a .reply } =
+      ≡ record {
+        answer = packed (a .number) (a .length);
+        bytes = deviceKept (h .bytes) (a .number) (a .device);
+        image = a .image;
+        map = a .map;
+        reply = a .reply;
+      } =
       sym (long-enough deviceLength (h .bytes) _ _ r) in
       let d : deviceAt (deviceReceiveOf (h .bytes) (h .image) (h .map) reply supported pcp condition message .bytes) ≡ a .device =
       records-carried .device-receive (h .bytes) (h .image) (h .map) reply supported pcp condition message r in
@@ -67,7 +75,13 @@ module _ (h : DeviceHost) where
   device-says (given supported pcp condition message reply) r =
       let a : device.After = device.receiveOf (deviceAt (h .bytes)) (h .image) (h .map) reply (fact supported) (fact pcp) condition message in
       let e : deviceReceiveOf (h .bytes) (h .image) (h .map) reply supported pcp condition message
-      ≡ record { answer = packed (a .number) (a .length); bytes = deviceKept (h .bytes) (a .number) (a .device); image = a .image; map = a .map; reply = a .reply } =
+      ≡ record {
+        answer = packed (a .number) (a .length);
+        bytes = deviceKept (h .bytes) (a .number) (a .device);
+        image = a .image;
+        map = a .map;
+        reply = a .reply;
+      } =
       sym (long-enough deviceLength (h .bytes) _ _ r) in
       ap (λ (g : DeviceGiven). aired (lengthIn (g .answer)) (g .reply)) e
       ∙ ap (λ (k : ℕ). aired k (a .reply))

@@ -1,15 +1,15 @@
 -- The witnesses of the premises over hosts: all by computation. Assumes nothing.
-use Prim.Native.Nat.{ℕ}
 use native.Mathlib.Omega.{arith}
 use mathlib.Core.Path.{refl}
-use mathlib.Core.List.{List, List·Memᴰ·not-nil}
+use mathlib.Core.List.{List·Memᴰ·not-nil}
 use Rattle.basis.specs.Choice.{pick, refusal, oneOf}
 use Rattle.basis.specs.Bytes.{part, same, over, patched}
 use Rattle.checksum.specs.Check.{doubled, entryOf, step, register, checkOf, zeroed, messageCheck}
 use Rattle.message.specs.Limits.{sizeOk, totalOk, isWord}
 use Rattle.message.specs.Version.{printable, front, allZero, goodVersion}
 use Rattle.message.specs.Recognition.{startHolds, versionByteHolds, codeHolds, checkHolds, lengthHolds, recognition}
-use Rattle.message.specs.Messages.{deviceCode, deviceData, fragmentOk, deviceValid, deviceFields, gatewayCode, gatewayData, installCode, gatewayValid, gatewayFields}
+use Rattle.message.specs.Messages.{deviceCode, deviceData, fragmentOk, deviceValid, deviceFields, gatewayCode, gatewayData, installCode, gatewayValid}
+use Rattle.message.specs.Messages.{gatewayFields}
 use Rattle.codec.specs.Codec.{sealed, frame, bytesOf, readOf, writeOf, said}
 use Rattle.bitmap.specs.Bitmap.{marked, mark, cleared, missingFrom, lowestMissing}
 use Rattle.device_record.specs.Record as device-record
@@ -31,7 +31,8 @@ unfolding pick refusal oneOf part same over patched doubled entryOf step registe
     missingFrom lowestMissing device-record.holding device-record.conditionOk device-record.newOf device-record.downloadOk
     device-record.recordOk device-record.mapBytes device-record.roomOk device.begin device.store device.onQuery device.onAnnounce
     device.onFragment device.onDownloadReply device.onExecute device.onResultReply device.handle device.receiveOf device.wanted
-    device.nextMessageOf device.installFinishedOf device.announceResult device.sameFields device.resumes device.fragmentLength device.fragmentNumber device.passes
+    device.nextMessageOf device.installFinishedOf device.announceResult device.sameFields device.resumes device.fragmentLength device.fragmentNumber
+    device.passes
     device.completion device.executeResult gateway-record.totalOf gateway-record.lengthOk gateway-record.fragmentOf gateway-record.startOf
     gateway-record.recordOk gateway.asked gateway.serving gateway.fragmentReply gateway.onQueryReply gateway.onAnnounceReply
     gateway.onFragmentRequest gateway.onDownloadReport gateway.onExecuteReply gateway.onResultReport gateway.handle gateway.receiveOf

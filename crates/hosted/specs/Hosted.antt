@@ -6,7 +6,6 @@ use mathlib.Core.List.{List, [], map}
 use lib.ListN.{length}
 use Rattle.basis.specs.Bytes.{same}
 use Rattle.message.specs.Limits.{deviceRoom, gatewayRoom}
-use Rattle.device_record.specs.declared.Device.{Device}
 use Rattle.device_record.specs.Record.{idle, mapBytes}
 use Rattle.gateway.specs.Record.{offer, totalOf}
 use Rattle.layout.specs.Layout.{deviceAt, deviceLength, gatewayAt, gatewayLength}

@@ -4,10 +4,12 @@ use mathlib.Core.Path.{_≡_}
 use mathlib.Core.List.{List, [], map}
 use lib.ListN.{length}
 use Rattle.layout.specs.Layout.{deviceAt, deviceLength, gatewayAt, gatewayLength}
-use Rattle.pcp.specs.Exports.{fact, Asked, DeviceGiven, GatewayGiven, deviceReceiveOf, deviceNextMessageOf, deviceInstallFinishedOf, gatewayReceiveOf, gatewayNextMessageOf}
+use Rattle.pcp.specs.Exports.{fact, Asked, DeviceGiven, GatewayGiven, deviceReceiveOf, deviceNextMessageOf, deviceInstallFinishedOf, gatewayReceiveOf}
+use Rattle.pcp.specs.Exports.{gatewayNextMessageOf}
 use Rattle.pcp.specs.Boundary.{numberIn, lengthIn}
 use Rattle.upgrade.specs.Fold.{after}
-use Rattle.upgrade.specs.Calls.{aired, DeviceCall, given, asked, installed, GatewayCall, Call, atDevice, atGateway, DeviceSide, GatewaySide, Ends, Exchange, next}
+use Rattle.upgrade.specs.Calls.{aired, DeviceCall, given, asked, installed, GatewayCall, Call, atDevice, atGateway, DeviceSide, GatewaySide, Ends, Exchange}
+use Rattle.upgrade.specs.Calls.{next}
 use Rattle.upgrade.specs.Records.{DeviceEnd, records, World}
 
 -- ---- the device's host

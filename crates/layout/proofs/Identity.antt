@@ -1,7 +1,7 @@
 -- The layouts lose nothing: bytes to record and back, and record to bytes and back, are the identity. Assumes nothing.
-use Prim.Native.Nat.{ℕ, suc, _+_, _*_, _/_, _%_, _≤_, _<_}
+use Prim.Native.Nat.{ℕ, _+_, _*_, _/_, _%_, _≤_, _<_}
 use native.Mathlib.Omega.{arith}
-use mathlib.Core.Path.{_≡_, refl, sym, _∙_, ap, ap₂}
+use mathlib.Core.Path.{_≡_, sym, _∙_, ap, ap₂}
 use mathlib.Core.List.{List, [], _∷_, _++_, append-assoc}
 use lib.ListN.{length, take, drop, getD, length-append}
 use lib.Seq.{getD-drop, take-at, drop-at, drop-drop}
@@ -43,9 +43,11 @@ module _ (b : List ℕ) (h : Bytes b) where
   word-part : (at : ℕ) → wordBytes (wordAt b at) ≡ getD b at 0 ∷ getD b (at + 1) 0 ∷ []
   word-part at = ap₂ (λ (x y : ℕ). x ∷ y ∷ []) (word-high b at h) (word-low b at h)
 
-  long-part : (at : ℕ) → longBytes (longAt b at) ≡ wordBytes (wordAt b at) ++ (wordBytes (wordAt b (at + 2)) ++ (wordBytes (wordAt b (at + 4)) ++ wordBytes (wordAt b (at + 6))))
+  long-part : (at : ℕ) → longBytes (longAt b at) ≡ wordBytes (wordAt b at)
+      ++ (wordBytes (wordAt b (at + 2)) ++ (wordBytes (wordAt b (at + 4)) ++ wordBytes (wordAt b (at + 6))))
   unfolding Bytes
-  long-part at = long-digits (wordAt b at) (wordAt b (at + 2)) (wordAt b (at + 4)) (wordAt b (at + 6)) (word-below (at + 2)) (word-below (at + 4)) (word-below (at + 6))
+  long-part at = long-digits (wordAt b at) (wordAt b (at + 2)) (wordAt b (at + 4)) (wordAt b (at + 6)) (word-below (at + 2)) (word-below (at + 4))
+      (word-below (at + 6))
 
   device-back : deviceLength ≤ length b → deviceBytes (deviceAt b) ≡ take deviceLength b
   unfolding deviceBytes deviceAt part

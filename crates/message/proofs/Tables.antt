@@ -15,8 +15,8 @@ use Rattle.basis.proofs.Choosing.{by-cases, and-left, and-right}
 use Rattle.basis.proofs.Lists.{part-within}
 use Rattle.message.specs.Limits.{sizeMax, isWord}
 use Rattle.message.specs.Version.{goodVersion}
-use Rattle.message.specs.Messages
-use Rattle.message.specs.Messages.{DeviceMessage, deviceCode, deviceData, deviceValid, deviceFields, fragmentOk, GatewayMessage, gatewayCode, gatewayData, gatewayValid, gatewayFields, installCode, Table, toDevice, toGateway}
+use Rattle.message.specs.Messages.{DeviceMessage, deviceCode, deviceData, deviceValid, deviceFields, fragmentOk, GatewayMessage, gatewayCode, gatewayData}
+use Rattle.message.specs.Messages.{gatewayValid, gatewayFields, installCode, Table, toDevice, toGateway}
 
 -- what the round trips need of a column
 pub record Lawful (t : Table) : Type 0 where

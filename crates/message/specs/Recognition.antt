@@ -34,5 +34,6 @@ lengthHolds m = eqb (wordAt m 6) (length m - 8)
 unfoldable pub recognition : (supported pcp : Bool) → List ℕ → ℕ
 recognition supported pcp m =
     refusal
-    ((unsupported, supported) ∷ (otherProtocol, pcp) ∷ (badStart, startHolds m) ∷ (badVersion, versionByteHolds m) ∷ (badCode, codeHolds m) ∷ (badCheck, checkHolds m) ∷ (badLength, lengthHolds m)
+    ((unsupported, supported) ∷ (otherProtocol, pcp) ∷ (badStart, startHolds m) ∷ (badVersion, versionByteHolds m) ∷ (badCode, codeHolds m) ∷
+    (badCheck, checkHolds m) ∷ (badLength, lengthHolds m)
     ∷ [])

@@ -1,14 +1,13 @@
 -- The exports meet their definitions: what each call left, from what its callees left. Assumes nothing.
 use Prim.Native.Nat.{ℕ, _≤_, _<_}
 use native.Mathlib.Omega.{arith}
-use mathlib.Core.Path.{_≡_, refl, sym, _∙_, ap}
+use mathlib.Core.Path.{_≡_, sym, _∙_, ap}
 use mathlib.Core.Bool.{Bool}
 use mathlib.Core.List.{List}
 use lib.Dec.{leb}
 use lib.ListN.{length}
 use borrow.Author.Tests.{le-leb, lt-leb}
 use Rattle.basis.specs.Choice.{pick}
-use Rattle.basis.specs.Numbers.{shortRecord}
 use Rattle.basis.proofs.Choosing.{pick-yes, pick-no}
 use Rattle.basis.proofs.Lists.{length-part}
 use Rattle.codec.specs.Codec.{Sent}
@@ -27,8 +26,9 @@ use Rattle.gateway.specs.declared.Said as gateway-said
 use Rattle.gateway.specs.Record.{startOf}
 use Rattle.gateway.specs.Coded as coded
 use Rattle.gateway.specs.Rules as gateway
-use Rattle.layout.specs.Layout.{deviceAt, deviceBytes, deviceLength, gatewayAt, gatewayBytes, gatewayLength, kept}
-use Rattle.pcp.specs.Exports.{fact, packed, textOf, Left, Asked, DeviceGiven, GatewayGiven, asked, deviceNewOf, deviceReceiveOf, deviceNextMessageOf, deviceInstallFinishedOf, deviceKept, gatewayKept, gatewayStartOf, gatewayReceiveOf, gatewayNextMessageOf}
+use Rattle.layout.specs.Layout.{deviceAt, deviceLength, gatewayAt, gatewayLength}
+use Rattle.pcp.specs.Exports.{fact, packed, textOf, Left, Asked, DeviceGiven, GatewayGiven, asked, deviceNewOf, deviceReceiveOf, deviceNextMessageOf}
+use Rattle.pcp.specs.Exports.{deviceInstallFinishedOf, deviceKept, gatewayKept, gatewayStartOf, gatewayReceiveOf, gatewayNextMessageOf}
 use Rattle.pcp.proofs.Fits.{device-reply-short, device-ask-short, gateway-reply-fits, gateway-ask-fits}
 
 -- ---- a record buffer that is too short, and one that is not

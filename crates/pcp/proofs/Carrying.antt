@@ -1,18 +1,17 @@
 -- The record that a call left is the one that the next call finds. Assumes nothing.
 use Prim.Native.Nat.{ℕ, _≤_}
-use native.Mathlib.Omega.{arith}
 use mathlib.Core.Path.{_≡_, refl, sym, _∙_, ap, subst}
 use mathlib.Core.Bool.{Bool, true, false, _&&_, true≢false}
 use mathlib.Core.List.{List}
 use lib.Dec.{eqb, leb}
-use lib.ListN.{length, replicate}
+use lib.ListN.{length}
 use borrow.Author.Tests.{eqb-true, eq-eqb, le-leb}
 use Rattle.basis.specs.Choice.{pick}
-use Rattle.basis.specs.Bytes.{over}
 use Rattle.basis.proofs.Choosing.{by-cases, and-left, and-both}
 use Rattle.basis.proofs.Lists.{length-part}
 use Rattle.message.specs.Version.{goodVersion}
-use Rattle.message.specs.Messages.{DeviceMessage, query, announce, fragment, downloadReply, execute, resultReply, deviceValid, GatewayMessage, queryReply, announceReply, fragmentRequest, downloadReport, executeReply, resultReport, Table, Reading, found, refused, toDevice, toGateway}
+use Rattle.message.specs.Messages.{DeviceMessage, query, announce, fragment, downloadReply, execute, resultReply, deviceValid, GatewayMessage, queryReply}
+use Rattle.message.specs.Messages.{announceReply, fragmentRequest, downloadReport, executeReply, resultReport, Reading, found, refused, toDevice, toGateway}
 use Rattle.codec.specs.Codec.{readOf}
 use Rattle.codec.proofs.RoundTrip.{device-round-trip}
 use Rattle.device_record.specs.declared.Device.{Device}
@@ -24,11 +23,11 @@ use Rattle.gateway.specs.declared.Gateway.{Gateway}
 use Rattle.gateway.specs.declared.Started.{Started}
 use Rattle.gateway.specs.Record.{startOf}
 use Rattle.gateway.specs.Rules as gateway
-use Rattle.layout.specs.Layout.{kept, deviceAt, deviceBytes, deviceLength, gatewayAt, gatewayBytes, gatewayLength}
-use Rattle.layout.proofs.Layouts.{kept-new}
+use Rattle.layout.specs.Layout.{kept, deviceAt, deviceLength, gatewayAt, gatewayLength}
 use Rattle.layout.specs.Identity.{DeviceTexts}
 use Rattle.layout.proofs.Identity.{identity}
-use Rattle.pcp.specs.Exports.{fact, textOf, Left, DeviceGiven, GatewayGiven, deviceNewOf, deviceReceiveOf, deviceInstallFinishedOf, deviceKept, gatewayKept, gatewayStartOf, gatewayReceiveOf}
+use Rattle.pcp.specs.Exports.{fact, textOf, Left, DeviceGiven, GatewayGiven, deviceNewOf, deviceReceiveOf, deviceInstallFinishedOf, deviceKept}
+use Rattle.pcp.specs.Exports.{gatewayKept, gatewayStartOf, gatewayReceiveOf}
 use Rattle.pcp.specs.Boundary.{Carried}
 use Rattle.pcp.proofs.Calls.{long-enough}
 use Rattle.pcp.proofs.Refusals.{DeviceOutcome, device-outcome, GatewayOutcome, gateway-outcome, done, declined}
@@ -63,7 +62,8 @@ module _ (d : Device) (image map reply : List ℕ) (s : DeviceTexts d) where
   same e r f = record { running = rw r (s .running); target = rw f (s .target) }
 
   handled-texts : (condition : ℕ) (r : Reading DeviceMessage) → Valid r → P (device.handle d image map reply condition r)
-  unfolding P device.handle device.onQuery device.onAnnounce device.begin device.onFragment device.store device.onDownloadReply device.onExecute device.onResultReply deviceValid
+  unfolding P device.handle device.onQuery device.onAnnounce device.begin device.onFragment device.store device.onDownloadReply device.onExecute
+      device.onResultReply deviceValid
   handled-texts condition (refused n) v = s
   handled-texts condition (found query) v = s
   handled-texts condition (found (announce f)) v =
@@ -82,7 +82,8 @@ module _ (d : Device) (image map reply : List ℕ) (s : DeviceTexts d) where
   handled-texts condition (found execute) v = by-cases DeviceTexts (λ _. same _ refl refl) (λ _. s)
   handled-texts condition (found (resultReply result)) v = by-cases P (λ _. same _ refl refl) (λ _. s)
 
-  received-texts : (supported pcp : Bool) (condition : ℕ) (message : List ℕ) → DeviceTexts (device.receiveOf d image map reply supported pcp condition message .device)
+  received-texts : (supported pcp : Bool) (condition : ℕ) (message : List ℕ)
+      → DeviceTexts (device.receiveOf d image map reply supported pcp condition message .device)
   unfolding P device.receiveOf
   received-texts supported pcp condition message =
       by-cases P (λ _. handled-texts condition (readOf toDevice supported pcp message) (read-valid supported pcp message)) (λ _. s)
@@ -134,7 +135,8 @@ module _ (g : Gateway) (content reply : List ℕ) where
   Q a = a .gateway .version ≡ g .version
 
   handled-version : (r : Reading GatewayMessage) → Q (gateway.handle g content reply r)
-  unfolding Q gateway.handle gateway.onQueryReply gateway.onAnnounceReply gateway.onFragmentRequest gateway.onDownloadReport gateway.onExecuteReply gateway.onResultReport gateway.asked
+  unfolding Q gateway.handle gateway.onQueryReply gateway.onAnnounceReply gateway.onFragmentRequest gateway.onDownloadReport gateway.onExecuteReply
+      gateway.onResultReport gateway.asked
   handled-version (refused n) = refl
   handled-version (found (queryReply result version)) =
       by-cases Q (λ _. by-cases (λ (h : Gateway). h .version ≡ g .version) (λ _. refl) (λ _. refl)) (λ _. refl)
@@ -184,7 +186,8 @@ records-carried =
           with-room (λ (k : Left). deviceAt (k .bytes) ≡ newOf (textOf version) .device) deviceLength bytes _ _ room
           (carried _ bytes _ room (made-texts (textOf version) (text-length version)) (λ h. absurd (h e)));
       device-receive = λ bytes image map reply supported pcp condition message room.
-          with-room (λ (g : DeviceGiven). deviceAt (g .bytes) ≡ device.receiveOf (deviceAt bytes) image map reply (fact supported) (fact pcp) condition message .device) deviceLength bytes _ _ room
+          with-room (λ (g : DeviceGiven). deviceAt (g .bytes)
+          ≡ device.receiveOf (deviceAt bytes) image map reply (fact supported) (fact pcp) condition message .device) deviceLength bytes _ _ room
           (carried _ bytes _ room (received-texts (deviceAt bytes) image map reply (at-texts bytes) _ _ condition message)
           (received-refused (deviceAt bytes) image map reply _ (device-outcome (deviceAt bytes) image map reply _ _ condition message)));
       device-install-finished = λ bytes code room.
@@ -195,7 +198,8 @@ records-carried =
           with-room (λ (k : Left). gatewayAt (k .bytes) ≡ startOf (textOf version) size content (fact checked) .gateway) gatewayLength bytes _ _ room
           (gateway-carried _ bytes _ room (started-text (textOf version) size content _ (text-length version)) (λ h. absurd (h e)));
       gateway-receive = λ bytes content reply supported pcp message room.
-          with-room (λ (g : GatewayGiven). gatewayAt (g .bytes) ≡ gateway.receiveOf (gatewayAt bytes) content reply (fact supported) (fact pcp) message .gateway) gatewayLength bytes _ _ room
+          with-room (λ (g : GatewayGiven). gatewayAt (g .bytes)
+          ≡ gateway.receiveOf (gatewayAt bytes) content reply (fact supported) (fact pcp) message .gateway) gatewayLength bytes _ _ room
           (gateway-carried _ bytes _ room (ap length (received-version (gatewayAt bytes) content reply _ _ message) ∙ gateway-at-text bytes)
           (gateway-refused (gatewayAt bytes) content reply _ (gateway-outcome (gatewayAt bytes) content reply _ _ message)));
     }

@@ -1,24 +1,22 @@
 -- A reply fits the least buffer of its end, so that its length fits its place in an answer. Assumes nothing.
-use Prim.Native.Nat.{ℕ, _+_, _≤_, min}
+use Prim.Native.Nat.{ℕ, _+_, _≤_}
 use native.Mathlib.Omega.{arith}
-use mathlib.Core.Path.{_≡_, refl, _∙_}
-use mathlib.Core.Bool.{Bool, true}
-use mathlib.Core.List.{List, [], _∷_, _++_}
-use lib.Dec.{eqb, leb}
-use lib.ListN.{length, take, drop, length-append, length-take}
+use mathlib.Core.Path.{_≡_}
+use mathlib.Core.Bool.{Bool}
+use mathlib.Core.List.{List, []}
+use lib.ListN.{length, length-append, length-take}
 use borrow.Author.Tests.{eqb-true}
-use Rattle.basis.specs.Choice.{pick, refusal}
-use Rattle.basis.specs.Bytes.{wordBytes}
 use Rattle.basis.proofs.Choosing.{by-cases, passed}
 use Rattle.message.specs.Limits.{sizeMax, deviceRoom, gatewayRoom}
-use Rattle.message.specs.Messages.{DeviceMessage, query, announce, fragment, downloadReply, execute, resultReply, deviceCode, deviceData, GatewayMessage, queryReply, announceReply, fragmentRequest, downloadReport, executeReply, resultReport, gatewayCode, gatewayData, Table, Reading, found, refused, toDevice, toGateway}
+use Rattle.message.specs.Messages.{DeviceMessage, query, announce, fragment, downloadReply, execute, resultReply, deviceData, GatewayMessage, queryReply}
+use Rattle.message.specs.Messages.{announceReply, fragmentRequest, downloadReport, executeReply, resultReport, gatewayData, Table, Reading, found, refused}
+use Rattle.message.specs.Messages.{toDevice, toGateway}
 use Rattle.codec.specs.Codec.{bytesOf, readOf, said}
-use Rattle.message.specs.declared.Fields.{Fields}
 use Rattle.codec.proofs.Frames.{length-frame}
 use Rattle.device_record.specs.declared.Device.{Device}
 use Rattle.device.specs.Rules as device
 use Rattle.gateway.specs.declared.Gateway.{Gateway}
-use Rattle.gateway.specs.Record.{fragmentOf, offered, recordOk, callRefusal}
+use Rattle.gateway.specs.Record.{fragmentOf, offered, callRefusal}
 use Rattle.gateway.specs.Rules as gateway
 use Rattle.gateway.proofs.Saying.{told}
 
@@ -37,7 +35,8 @@ module _ (d : Device) (running : length (d .running) ≡ 16) where
 
   module _ (image map reply : List ℕ) where
     handled-short : (condition : ℕ) (r : Reading DeviceMessage) → Short (device.handle d image map reply condition r)
-    unfolding Short device.handle device.onQuery device.onAnnounce device.begin device.onFragment device.store device.onDownloadReply device.onExecute device.onResultReply gatewayData
+    unfolding Short device.handle device.onQuery device.onAnnounce device.begin device.onFragment device.store device.onDownloadReply device.onExecute
+        device.onResultReply gatewayData
     handled-short condition (refused n) = omega arith
     handled-short condition (found query) = spoken-short (queryReply 0x00 (d .running)) (omega arith)
     handled-short condition (found (announce f)) =
@@ -100,7 +99,8 @@ module _ (g : Gateway) (content reply : List ℕ) where
       P m = length (bytesOf toDevice m) ≤ gatewayRoom
 
   handled-fits : g .size ≤ sizeMax → (r : Reading GatewayMessage) → Fits (gateway.handle g content reply r)
-  unfolding Fits gateway.handle gateway.onQueryReply gateway.onAnnounceReply gateway.onFragmentRequest gateway.onDownloadReport gateway.onExecuteReply gateway.onResultReport deviceData
+  unfolding Fits gateway.handle gateway.onQueryReply gateway.onAnnounceReply gateway.onFragmentRequest gateway.onDownloadReport gateway.onExecuteReply
+      gateway.onResultReport deviceData
   handled-fits h (refused n) = omega arith
   handled-fits h (found (queryReply result version)) = by-cases Fits (λ _. omega arith) (λ _. omega arith)
   handled-fits h (found (announceReply result)) = by-cases Fits (λ _. omega arith) (λ _. omega arith)

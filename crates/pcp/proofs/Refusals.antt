@@ -1,15 +1,16 @@
 -- Demand 1 at the boundary: any number but 0 leaves every buffer as it was. Assumes nothing.
-use Prim.Native.Nat.{ℕ, _+_, _*_, _/_, _%_, _≤_, _<_}
+use Prim.Native.Nat.{ℕ, _<_}
 use native.Mathlib.Omega.{arith}
 use mathlib.Core.Path.{_≡_, refl, sym, _∙_, ap, subst}
 use mathlib.Core.Bool.{Bool}
-use mathlib.Core.List.{List, [], _∷_}
+use mathlib.Core.List.{List}
 use lib.Dec.{eqb}
 use lib.ListN.{length}
-use Rattle.basis.specs.Choice.{pick, refusal}
+use Rattle.basis.specs.Choice.{pick}
 use Rattle.basis.proofs.Choosing.{by-cases, refusal-among}
-use Rattle.message.specs.Messages.{DeviceMessage, query, announce, fragment, downloadReply, execute, resultReply, GatewayMessage, queryReply, announceReply, fragmentRequest, downloadReport, executeReply, resultReport, Table, Reading, found, refused, toDevice, toGateway}
-use Rattle.codec.specs.Codec.{Sent, readOf, said}
+use Rattle.message.specs.Messages.{DeviceMessage, query, announce, fragment, downloadReply, execute, resultReply, GatewayMessage, queryReply, announceReply}
+use Rattle.message.specs.Messages.{fragmentRequest, downloadReport, executeReply, resultReport, Table, Reading, found, refused, toDevice, toGateway}
+use Rattle.codec.specs.Codec.{readOf, said}
 use Rattle.codec.specs.Demand2.{RoundTrips}
 use Rattle.codec.proofs.RoundTrip.{device-round-trip, gateway-round-trip}
 use Rattle.device_record.specs.declared.Device.{Device}
@@ -17,11 +18,11 @@ use Rattle.device.specs.declared.Finished.{Finished}
 use Rattle.device.specs.Rules as device
 use Rattle.gateway.specs.declared.Gateway.{Gateway}
 use Rattle.gateway.specs.Rules as gateway
-use Rattle.layout.specs.Layout.{kept, deviceAt, deviceBytes, deviceLength, gatewayAt, gatewayBytes, gatewayLength}
+use Rattle.layout.specs.Layout.{kept, deviceAt, deviceLength, gatewayAt, gatewayLength}
 use Rattle.layout.proofs.Layouts.{kept-refused}
-use Rattle.pcp.specs.Exports
-use Rattle.pcp.specs.Exports.{packed, Left, Asked, DeviceGiven, GatewayGiven, asked, deviceNewOf, deviceReceiveOf, deviceNextMessageOf, deviceInstallFinishedOf, deviceKept, gatewayKept, gatewayStartOf, gatewayReceiveOf, gatewayNextMessageOf}
-use Rattle.pcp.specs.Boundary.{numberIn, lengthIn, Refused, Demand1}
+use Rattle.pcp.specs.Exports.{packed, Left, Asked, DeviceGiven, GatewayGiven, asked, deviceNewOf, deviceReceiveOf, deviceNextMessageOf}
+use Rattle.pcp.specs.Exports.{deviceInstallFinishedOf, deviceKept, gatewayKept, gatewayStartOf, gatewayReceiveOf, gatewayNextMessageOf}
+use Rattle.pcp.specs.Boundary.{lengthIn, Refused, Demand1}
 
 -- ---- refusals have numbers below 256
 
@@ -49,7 +50,8 @@ module _ (d : Device) (image map reply : List ℕ) where
     declined : (n : ℕ) → n < 256 → a ≡ device.refuse d image map reply n → DeviceOutcome a
 
   device-handled : (condition : ℕ) (r : Reading DeviceMessage) → Small r → DeviceOutcome (device.handle d image map reply condition r)
-  unfolding device.handle device.onQuery device.onAnnounce device.begin device.onFragment device.fragmentNumber device.store device.onDownloadReply device.onExecute device.onResultReply
+  unfolding device.handle device.onQuery device.onAnnounce device.begin device.onFragment device.fragmentNumber device.store device.onDownloadReply
+      device.onExecute device.onResultReply
   device-handled condition (refused n) small = declined n small refl
   device-handled condition (found query) small = done refl
   device-handled condition (found (announce f)) small =
@@ -88,7 +90,8 @@ module _ (g : Gateway) (content reply : List ℕ) where
     declined : (n : ℕ) → n < 256 → a ≡ gateway.refuse g content reply n → GatewayOutcome a
 
   gateway-handled : (r : Reading GatewayMessage) → Small r → GatewayOutcome (gateway.handle g content reply r)
-  unfolding gateway.handle gateway.onQueryReply gateway.onAnnounceReply gateway.onFragmentRequest gateway.onDownloadReport gateway.onExecuteReply gateway.onResultReport
+  unfolding gateway.handle gateway.onQueryReply gateway.onAnnounceReply gateway.onFragmentRequest gateway.onDownloadReport gateway.onExecuteReply
+      gateway.onResultReport
   gateway-handled (refused n) small = declined n small refl
   gateway-handled (found (queryReply result version)) small = by-cases GatewayOutcome (λ _. done refl) (λ _. declined 9 (omega arith) refl)
   gateway-handled (found (announceReply result)) small = by-cases GatewayOutcome (λ _. done refl) (λ _. declined 9 (omega arith) refl)
@@ -221,7 +224,8 @@ finished-returned d code =
     by-cases (λ (f : Finished). (f .number ≡ 0 → ⊥) → f .device ≡ d) (λ _ h. absurd (h refl)) (λ _ _. refl)
 
 pub demand-1 : Demand1
-unfolding deviceNewOf deviceReceiveOf deviceNextMessageOf deviceInstallFinishedOf gatewayStartOf gatewayReceiveOf gatewayNextMessageOf Unkept Unsaid DeviceUntouched GatewayUntouched
+unfolding deviceNewOf deviceReceiveOf deviceNextMessageOf deviceInstallFinishedOf gatewayStartOf gatewayReceiveOf gatewayNextMessageOf Unkept Unsaid
+    DeviceUntouched GatewayUntouched
 demand-1 =
     record {
       device-new = λ bytes version. by-cases (Unkept bytes) (λ _ h. stays _ deviceLength _ bytes h) (λ _ h. refl);

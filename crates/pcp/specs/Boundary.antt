@@ -5,7 +5,6 @@ use mathlib.Core.Path.{_≡_}
 use mathlib.Core.Bool.{Bool}
 use mathlib.Core.List.{List}
 use lib.ListN.{length}
-use Rattle.basis.specs.Bytes.{Bytes}
 use Rattle.device_record.specs.declared.Device.{Device}
 use Rattle.device_record.specs.Record.{newOf}
 use Rattle.device.specs.declared.Finished.{Finished}
@@ -14,7 +13,8 @@ use Rattle.gateway.specs.declared.Gateway.{Gateway}
 use Rattle.gateway.specs.Record.{startOf}
 use Rattle.gateway.specs.Rules as gateway
 use Rattle.layout.specs.Layout.{deviceAt, deviceLength, gatewayAt, gatewayLength}
-use Rattle.pcp.specs.Exports.{fact, textOf, Left, Asked, DeviceGiven, GatewayGiven, deviceNewOf, deviceReceiveOf, deviceNextMessageOf, deviceInstallFinishedOf, gatewayStartOf, gatewayReceiveOf, gatewayNextMessageOf}
+use Rattle.pcp.specs.Exports.{fact, textOf, Left, Asked, DeviceGiven, GatewayGiven, deviceNewOf, deviceReceiveOf, deviceNextMessageOf}
+use Rattle.pcp.specs.Exports.{deviceInstallFinishedOf, gatewayStartOf, gatewayReceiveOf, gatewayNextMessageOf}
 
 -- the number in an answer, and the length of the reply
 abbrev pub numberIn : ℕ → ℕ

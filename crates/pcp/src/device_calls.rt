@@ -31,7 +31,8 @@ pub extern "C" fn pcp_raw_device_receive(
     map: &mut [u8],
     reply: &mut [u8],
 ) -> u32
-    ensures { λ r. ⌜ record { answer = r; bytes = now (bytes .exit); image = now (image .exit); map = now (map .exit); reply = now (reply .exit) } ≡ deviceReceiveOf (now (bytes .entry)) (now (image .entry)) (now (map .entry)) (now (reply .entry)) supported pcp condition (now (message .entry)) ⌝ }
+    ensures { λ r. ⌜ record { answer = r; bytes = now (bytes .exit); image = now (image .exit); map = now (map .exit); reply = now (reply .exit) }
+        ≡ deviceReceiveOf (now (bytes .entry)) (now (image .entry)) (now (map .entry)) (now (reply .entry)) supported pcp condition (now (message .entry)) ⌝ }
 {
     if bytes.len() < layout::DEVICE_LENGTH {
         return SHORT_RECORD as u32;
@@ -59,7 +60,8 @@ pub extern "C" fn pcp_raw_device_next_message(
     map: &[u8],
     reply: &mut [u8],
 ) -> u32
-    ensures { λ r. ⌜ record { answer = r; reply = now (reply .exit) } ≡ deviceNextMessageOf (now (bytes .entry)) (now (image .entry)) (now (map .entry)) (now (reply .entry)) ⌝ }
+    ensures { λ r. ⌜ record { answer = r; reply = now (reply .exit) }
+        ≡ deviceNextMessageOf (now (bytes .entry)) (now (image .entry)) (now (map .entry)) (now (reply .entry)) ⌝ }
 {
     if bytes.len() < layout::DEVICE_LENGTH {
         return SHORT_RECORD as u32;

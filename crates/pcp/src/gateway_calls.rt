@@ -16,7 +16,8 @@ pub extern "C" fn pcp_raw_gateway_start(
     content: &[u8],
     checked: u8,
 ) -> u8
-    ensures { λ r. ⌜ record { answer = r; bytes = now (bytes .exit) } ≡ gatewayStartOf (now (bytes .entry)) (now (version .entry)) size (now (content .entry)) checked ⌝ }
+    ensures { λ r. ⌜ record { answer = r; bytes = now (bytes .exit) }
+        ≡ gatewayStartOf (now (bytes .entry)) (now (version .entry)) size (now (content .entry)) checked ⌝ }
 {
     if bytes.len() < layout::GATEWAY_LENGTH {
         return SHORT_RECORD;
@@ -36,7 +37,8 @@ pub extern "C" fn pcp_raw_gateway_receive(
     content: &[u8],
     reply: &mut [u8],
 ) -> u32
-    ensures { λ r. ⌜ record { answer = r; bytes = now (bytes .exit); reply = now (reply .exit) } ≡ gatewayReceiveOf (now (bytes .entry)) (now (content .entry)) (now (reply .entry)) supported pcp (now (message .entry)) ⌝ }
+    ensures { λ r. ⌜ record { answer = r; bytes = now (bytes .exit); reply = now (reply .exit) }
+        ≡ gatewayReceiveOf (now (bytes .entry)) (now (content .entry)) (now (reply .entry)) supported pcp (now (message .entry)) ⌝ }
 {
     if bytes.len() < layout::GATEWAY_LENGTH {
         return SHORT_RECORD as u32;
@@ -54,7 +56,8 @@ pub extern "C" fn pcp_raw_gateway_next_message(
     content: &[u8],
     reply: &mut [u8],
 ) -> u32
-    ensures { λ r. ⌜ record { answer = r; reply = now (reply .exit) } ≡ gatewayNextMessageOf (now (bytes .entry)) (now (content .entry)) (now (reply .entry)) ⌝ }
+    ensures { λ r. ⌜ record { answer = r; reply = now (reply .exit) }
+        ≡ gatewayNextMessageOf (now (bytes .entry)) (now (content .entry)) (now (reply .entry)) ⌝ }
 {
     if bytes.len() < layout::GATEWAY_LENGTH {
         return SHORT_RECORD as u32;

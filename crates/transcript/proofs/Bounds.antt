@@ -3,11 +3,10 @@
 use Prim.Native.Nat.{ℕ, zero, suc, _+_, _-_, _*_, _/_, _%_, _^_, _≤_, _<_}
 use native.Mathlib.Nat.{suc-add}
 use native.Mathlib.Omega.{arith}
-use mathlib.Core.Path.{_≡_, refl, sym, _∙_, ap}
+use mathlib.Core.Path.{_≡_, refl, _∙_, ap}
 use mathlib.Core.Bool.{Bool, true, false}
 use mathlib.Core.List.{List, [], _∷_, _++_}
 use lib.ListN.{length}
-use borrow.Author.Tests.{ltb-true, ltb-false}
 use Rattle.basis.specs.Choice.{pick}
 use Rattle.basis.proofs.Choosing.{by-cases}
 use Rattle.device.specs.Rules.{After}
@@ -49,13 +48,16 @@ same-if true e = e refl
 same-if false e = refl
 
 -- from a place on: as many turns as there are bytes left, and one for the end
-enough : (capture : List ℕ) (most more number at : ℕ) (s : After) → length capture < at + most → textFrom capture (most + more) number at s ≡ textFrom capture most number at s
+enough : (capture : List ℕ) (most more number at : ℕ) (s : After) → length capture < at + most → textFrom capture (most + more) number at s
+    ≡ textFrom capture most number at s
 unfolding textFrom
 enough capture zero more number at s h = at-end capture (0 + more) number at s (omega arith)
 enough capture (suc most) more number at s h =
     rw (suc-add most more) (ap (λ (l : List ℕ). printed number (itemAt capture at) (after capture (itemAt capture at) s) ++ l)
-    (same-if (goesOn (itemAt capture at)) (λ t. let p : Past capture at (placeAfter (itemAt capture at) at) = past-record capture at (itemAt capture at) refl t in
+    (same-if (goesOn (itemAt capture at)) (λ t. let p : Past capture at (placeAfter (itemAt capture at) at) = past-record capture at
+    (itemAt capture at) refl t in
     enough capture most more (number + 1) (placeAfter (itemAt capture at) at) (after capture (itemAt capture at) s) (omega (arith, p .past)))))
 
-pub turns-enough : (capture : List ℕ) (more : ℕ) (s : After) → textFrom capture (suc (length capture) + more) 0 0 s ≡ textFrom capture (suc (length capture)) 0 0 s
+pub turns-enough : (capture : List ℕ) (more : ℕ) (s : After) → textFrom capture (suc (length capture) + more) 0 0 s
+    ≡ textFrom capture (suc (length capture)) 0 0 s
 turns-enough capture more s = enough capture (suc (length capture)) more 0 0 s (omega arith)

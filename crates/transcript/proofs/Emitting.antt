@@ -1,10 +1,10 @@
 -- Text written piece by piece: what is left of it, and what a piece makes of that. Assumes nothing.
 use Prim.Native.Nat.{ℕ, _+_, _≤_}
-use native.Mathlib.Nat.{add-zero, add-assoc}
+use native.Mathlib.Nat.{add-zero}
 use native.Mathlib.Omega.{arith}
 use mathlib.Core.Path.{_≡_, refl, sym, _∙_, ap}
-use mathlib.Core.List.{List, [], _∷_, _++_, append-assoc}
-use lib.ListN.{length, take, drop, length-append, length-take, take-append-drop}
+use mathlib.Core.List.{List, [], _++_, append-assoc}
+use lib.ListN.{length, take, length-append, length-take, take-append-drop}
 use Rattle.basis.specs.Bytes.{over, patched}
 use Rattle.basis.proofs.Lists.{patched-over, length-patched}
 use Rattle.transcript.specs.Coded.{Emitted}
@@ -18,7 +18,12 @@ patched-is-over at xs o h = rw (length-front at xs o h, append-assoc)
 
 pub patched-patched : (at : ℕ) (xs ys o : List ℕ) → at ≤ length o → patched (at + length xs) ys (patched at xs o) ≡ patched at (xs ++ ys) o
 patched-patched at xs ys o h =
-    rw (patched-is-over at xs o h, patched-over (take at o ++ xs) ys o (at + length xs) (length-front at xs o h), append-assoc, ← patched-is-over at (xs ++ ys) o h)
+    rw (
+      patched-is-over at xs o h,
+      patched-over (take at o ++ xs) ys o (at + length xs) (length-front at xs o h),
+      append-assoc,
+      ← patched-is-over at (xs ++ ys) o h,
+    )
 
 pub patched-none : (at : ℕ) (o : List ℕ) → patched at [] o ≡ o
 unfolding patched
@@ -39,7 +44,8 @@ module _ (text before : List ℕ) (at : ℕ) where
   complete {now} {reached} r = record { bytes = sym (patched-none reached now) ∙ r .bytes; place = sym (add-zero reached) ∙ r .place }
 
   module _ (piece rest : List ℕ) {now : List ℕ} {reached : ℕ} (r : Remaining text before at (piece ++ rest) now reached) where
-    pub onward : reached + length piece ≤ length now → {next : List ℕ} {behind : ℕ} → Emitted piece now reached next behind → Remaining text before at rest next behind
+    pub onward : reached + length piece ≤ length now → {next : List ℕ} {behind : ℕ} → Emitted piece now reached next behind
+        → Remaining text before at rest next behind
     onward fits {next} {behind} e =
         record {
           bytes = rw (e .bytes, e .place, patched-patched reached piece rest now (omega arith)) (r .bytes);
@@ -48,6 +54,7 @@ module _ (text before : List ℕ) (at : ℕ) where
         }
 
   -- a buffer with room for the whole has room for each piece
-  module _ (fits : at + length text ≤ length before) (piece rest : List ℕ) {now : List ℕ} {reached : ℕ} (r : Remaining text before at (piece ++ rest) now reached) where
+  module _ (fits : at + length text ≤ length before) (piece rest : List ℕ) {now : List ℕ} {reached : ℕ}
+      (r : Remaining text before at (piece ++ rest) now reached) where
     pub room : reached + length piece ≤ length now
     room = omega (arith, length-append piece rest, r .place, r .same)

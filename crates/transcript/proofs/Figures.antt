@@ -66,12 +66,27 @@ module _ (n : ℕ) where
       (omega arith, dropped 2 (rw (more-figures 4 n (omega arith), more-figures 3 (n / 10) (omega arith), last-figure 2 (n / 10 / 10) (omega arith))))
 
   pub thousands : 1000 ≤ n → n < 10000 → Zeros n 1
-  thousands l h =
-      (omega arith, dropped 1 (rw (more-figures 4 n (omega arith), more-figures 3 (n / 10) (omega arith), more-figures 2 (n / 10 / 10) (omega arith), last-figure 1 (n / 10 / 10 / 10) (omega arith))))
+  thousands l h = (
+    omega arith,
+    dropped 1 (rw (
+      more-figures 4 n (omega arith),
+      more-figures 3 (n / 10) (omega arith),
+      more-figures 2 (n / 10 / 10) (omega arith),
+      last-figure 1 (n / 10 / 10 / 10) (omega arith),
+    )),
+  )
 
   pub all-five : 10000 ≤ n → Zeros n 0
-  all-five l =
-      (omega arith, dropped 0 (rw (more-figures 4 n (omega arith), more-figures 3 (n / 10) (omega arith), more-figures 2 (n / 10 / 10) (omega arith), more-figures 1 (n / 10 / 10 / 10) (omega arith), one-figure (n / 10 / 10 / 10 / 10))))
+  all-five l = (
+    omega arith,
+    dropped 0 (rw (
+      more-figures 4 n (omega arith),
+      more-figures 3 (n / 10) (omega arith),
+      more-figures 2 (n / 10 / 10) (omega arith),
+      more-figures 1 (n / 10 / 10 / 10) (omega arith),
+      one-figure (n / 10 / 10 / 10 / 10),
+    )),
+  )
 
   pub zeros-counted : {zeros : ℕ} → Zeros n zeros → zeros ≡ 5 - length (decimal n)
   zeros-counted {zeros} z = let e : length (decimal n) ≡ 5 - zeros = ap length (z .1) ∙ length-drop zeros (five n) in omega (arith, z .0)
@@ -92,10 +107,12 @@ module _ (n : ℕ) where
       shown : {k : ℕ} → Zeros n k → take (6 - zeros) (drop zeros (five n ++ (end ∷ []))) ≡ decimal n ++ (end ∷ [])
       shown {k} z =
           let s : zeros ≡ k = e ∙ sym (zeros-counted z) in
-          rw (s, z .1, drop-append-le k (five n) (end ∷ []) (omega (arith, z .0))) (take-all (6 - k) (drop k (five n) ++ (end ∷ [])) (simp (length-append, length-drop) (omega (arith, z .0))))
+          rw (s, z .1, drop-append-le k (five n) (end ∷ []) (omega (arith, z .0)))
+          (take-all (6 - k) (drop k (five n) ++ (end ∷ [])) (simp (length-append, length-drop) (omega (arith, z .0))))
 
 -- the same of figures found one by one
-pub number-written : (n : ℕ) {a b c d e zeros : ℕ} (end : ℕ) → a ≡ 48 + n / 10000 % 10 → b ≡ 48 + n / 1000 % 10 → c ≡ 48 + n / 100 % 10 → d ≡ 48 + n / 10 % 10 → e ≡ 48 + n % 10
+pub number-written : (n : ℕ) {a b c d e zeros : ℕ} (end : ℕ) → a ≡ 48 + n / 10000 % 10 → b ≡ 48 + n / 1000 % 10 → c ≡ 48 + n / 100 % 10 → d
+    ≡ 48 + n / 10 % 10 → e ≡ 48 + n % 10
     → zeros ≡ 5 - length (decimal n) → take (6 - zeros) (drop zeros (a ∷ b ∷ c ∷ d ∷ e ∷ end ∷ [])) ≡ numberText n end
 number-written n {zeros} end p q r s t z =
     (λ i. take (6 - zeros) (drop zeros (p i ∷ q i ∷ r i ∷ s i ∷ t i ∷ end ∷ []))) ∙ number-shown n zeros end z
@@ -123,14 +140,16 @@ pub hex-none : (bytes : List ℕ) (i : ℕ) → length bytes ≤ i → hex (drop
 unfolding hex
 hex-none bytes i h = rw (drop-of-length-le bytes h)
 
-module _ (bytes o : List ℕ) (at i : ℕ) (fits : at + length (hex bytes) ≤ length o) {now : List ℕ} {reached : ℕ} (r : Remaining (hex bytes) o at (hex (drop i bytes)) now reached) where
+module _ (bytes o : List ℕ) (at i : ℕ) (fits : at + length (hex bytes) ≤ length o) {now : List ℕ} {reached : ℕ}
+    (r : Remaining (hex bytes) o at (hex (drop i bytes)) now reached) where
   at-byte : i < length bytes → Remaining (hex bytes) o at (byteText (getD bytes i 0) ++ hex (drop (i + 1) bytes)) now reached
   at-byte h = rw (hex-from bytes i h) at r
 
   pub hex-room : i < length bytes → reached + 2 ≤ length now
   hex-room h = room (hex bytes) o at fits (byteText (getD bytes i 0)) (hex (drop (i + 1) bytes)) (at-byte h)
 
-  pub hex-onward : i < length bytes → {next : List ℕ} {behind : ℕ} → Emitted (byteText (getD bytes i 0)) now reached next behind → Remaining (hex bytes) o at (hex (drop (i + 1) bytes)) next behind
+  pub hex-onward : i < length bytes → {next : List ℕ} {behind : ℕ} → Emitted (byteText (getD bytes i 0)) now reached next behind
+      → Remaining (hex bytes) o at (hex (drop (i + 1) bytes)) next behind
   hex-onward h = onward (hex bytes) o at (byteText (getD bytes i 0)) (hex (drop (i + 1) bytes)) (at-byte h) (hex-room h)
 
   pub hex-complete : length bytes ≤ i → Emitted (hex bytes) o at now reached

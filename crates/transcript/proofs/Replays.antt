@@ -1,5 +1,5 @@
 -- What replay writes is its text, and what it leaves out of a buffer that is too short. Assumes nothing.
-use Prim.Native.Nat.{ℕ, suc, _+_, _≤_, _<_}
+use Prim.Native.Nat.{ℕ, suc, _≤_, _<_}
 use native.Mathlib.Nat.{zero-add}
 use mathlib.Core.Path.{_≡_, sym, _∙_, ap, ap₂}
 use mathlib.Core.List.{List}
@@ -34,7 +34,8 @@ module _ (capture out : List ℕ) where
     pub replays : length capture ≤ captureMost → {made : Made} → made ≡ newOf version → {now : List ℕ} {r : ℕ}
         → Emitted (textFrom capture (suc (length capture)) 0 0 (at-first (made .device))) out 0 now r → played r now ≡ replayOf capture out
     unfolding replayText start
-    replays h e = text-written (sym (pick-no _ _ _ (le-ltb _ _ h) ∙ ap (λ (m : Made). textFrom capture (suc (length capture)) 0 0 (at-first (m .device))) (sym e)))
+    replays h e = text-written (sym (pick-no _ _ _ (le-ltb _ _ h)
+        ∙ ap (λ (m : Made). textFrom capture (suc (length capture)) 0 0 (at-first (m .device))) (sym e)))
 
 -- the text that is answered lies within the buffer
 pub within : (capture out : List ℕ) {now : List ℕ} {r : ℕ} → played r now ≡ replayOf capture out → r ≤ length now

@@ -1,10 +1,10 @@
 -- The turns of replay one after the other. Assumes nothing.
-use Prim.Native.Nat.{ℕ, zero, suc, _+_, _-_, _*_, _≤_, _<_}
+use Prim.Native.Nat.{ℕ, suc, _+_, _-_, _*_, _≤_, _<_}
 use native.Mathlib.Nat.{sub-zero}
 use native.Mathlib.Omega.{arith}
-use mathlib.Core.Path.{_≡_, refl, sym, _∙_, ap, subst}
-use mathlib.Core.Bool.{Bool, true, false, not, false≢true}
-use mathlib.Core.List.{List, [], _∷_, _++_, append-nil}
+use mathlib.Core.Path.{_≡_, refl, sym, _∙_, ap}
+use mathlib.Core.Bool.{true, false, not, false≢true}
+use mathlib.Core.List.{List, [], _++_}
 use lib.ListN.{length, take, length-take}
 use borrow.Author.Tests.{not-true, not-false}
 use Rattle.basis.specs.Choice.{pick}
@@ -15,7 +15,7 @@ use Rattle.device.specs.Coded.{afterCall}
 use Rattle.capture.specs.Capture.{Item, itemAt, placeAfter, headLength}
 use Rattle.capture.proofs.Steps.{Found, is-found}
 use Rattle.transcript.specs.declared.Turn.{Turn}
-use Rattle.transcript.specs.Transcript.{captureMost, replyLength, line, after, printed, goesOn, textFrom, lineMost, outRoom}
+use Rattle.transcript.specs.Transcript.{captureMost, replyLength, after, printed, goesOn, textFrom, lineMost, outRoom}
 use Rattle.transcript.specs.Coded.{Emitted, Turned}
 use Rattle.transcript.proofs.Emitting.{Remaining, whole, complete, onward}
 use Rattle.transcript.proofs.Figures.{length-line, length-fault}
@@ -48,7 +48,8 @@ module _ (capture : List ℕ) where
   -- what is left to print before a turn, and when no turn is left
   text-on : (number at : ℕ) (s : After) → number ≤ length capture
       → textFrom capture (all - number) number at s ≡ printed number (itemAt capture at) (after capture (itemAt capture at) s)
-      ++ pick (goesOn (itemAt capture at)) (textFrom capture (all - (number + 1)) (number + 1) (placeAfter (itemAt capture at) at) (after capture (itemAt capture at) s)) []
+      ++ pick (goesOn (itemAt capture at)) (textFrom capture (all - (number + 1)) (number + 1) (placeAfter (itemAt capture at) at)
+      (after capture (itemAt capture at) s)) []
   unfolding textFrom
   text-on number at s h =
       let a : all - number ≡ suc (length capture - number) = omega arith in
@@ -67,10 +68,19 @@ module _ (capture : List ℕ) where
     pub counted : number ≤ all
     pub buffer : length reply ≡ replyLength
 
-  pub begins : (before : List ℕ) (answer : Answer) (image map reply : List ℕ) → length reply ≡ replyLength → Reached before (afterCall answer image map reply) answer image map reply before 0 0 0
-  begins before answer image map reply e = record { left = rw sub-zero (whole _ before 0); place = omega arith; written = omega arith; counted = omega arith; buffer = e }
+  pub begins : (before : List ℕ) (answer : Answer) (image map reply : List ℕ) → length reply ≡ replyLength
+      → Reached before (afterCall answer image map reply) answer image map reply before 0 0 0
+  begins before answer image map reply e = record {
+    left = rw sub-zero (whole _ before 0);
+    place = omega arith;
+    written = omega arith;
+    counted = omega
+        arith;
+    buffer = e;
+  }
 
-  module _ {before : List ℕ} {s₀ : After} {answer : Answer} {image map reply now : List ℕ} {at end number : ℕ} (i : Reached before s₀ answer image map reply now at end number) where
+  module _ {before : List ℕ} {s₀ : After} {answer : Answer} {image map reply now : List ℕ} {at end number : ℕ}
+      (i : Reached before s₀ answer image map reply now at end number) where
     -- every turn was taken
     pub over : length capture < number → Emitted (textFrom capture all 0 0 s₀) before 0 now end
     over h = complete _ before 0 (rw (text-none number at (afterCall answer image map reply) h) at (i .left))
@@ -79,7 +89,9 @@ module _ (capture : List ℕ) where
       pub turn-room : end + lineMost ≤ length now
       turn-room = omega (arith, i .left .same, i .place, i .written)
 
-      module _ (h : number ≤ length capture) {r : Turn} {image′ map′ reply′ now′ : List ℕ} (u : Turned capture (itemAt capture at) number at (afterCall answer image map reply) now end r image′ map′ reply′ now′) (b : length reply′ ≡ replyLength) where
+      module _ (h : number ≤ length capture) {r : Turn} {image′ map′ reply′ now′ : List ℕ}
+          (u : Turned capture (itemAt capture at) number at (afterCall answer image map reply) now end r image′ map′ reply′ now′)
+          (b : length reply′ ≡ replyLength) where
         abbrev item : Item
         item = itemAt capture at
 
@@ -95,7 +107,8 @@ module _ (capture : List ℕ) where
         turned : Remaining (textFrom capture all 0 0 s₀) before 0 next-text now′ (r .end)
         unfolding next-text
         turned =
-            onward _ before 0 (printed number item t) next-text (rw (text-on number at (afterCall answer image map reply) h) at (i .left)) (omega (arith, turn-room, print-fits)) (u .text)
+            onward _ before 0 (printed number item t) next-text (rw (text-on number at (afterCall answer image map reply) h) at (i .left))
+            (omega (arith, turn-room, print-fits)) (u .text)
 
         -- the last turn
         pub stops : not (r .more) ≡ true → Emitted (textFrom capture all 0 0 s₀) before 0 now′ (r .end)

@@ -1,12 +1,11 @@
 -- One turn of replay: what a call of the device and each kind of step leave. Assumes nothing.
-use Prim.Native.Nat.{ℕ, zero, suc, _+_, _-_, _*_, _≤_, _<_, min}
+use Prim.Native.Nat.{ℕ, _+_, _-_, _≤_, min}
 use native.Mathlib.Nat.{add-zero}
 use native.Mathlib.Omega.{arith}
 use mathlib.Core.Path.{_≡_, refl, sym, _∙_, ap, subst}
 use mathlib.Core.Bool.{Bool, true, false}
-use mathlib.Core.List.{List, [], _∷_, _++_}
+use mathlib.Core.List.{List, []}
 use lib.ListN.{length, take, length-take}
-use Rattle.basis.specs.Bytes.{patched}
 use Rattle.device.specs.declared.Answer.{Answer}
 use Rattle.device.specs.Rules.{After, receiveOf}
 use Rattle.device.specs.Coded.{afterCall}

@@ -73,7 +73,8 @@ fn give(
 ) -> Turn
     requires { ⌜ length (now reply) ≡ replyLength ⌝ }
     requires { ⌜ end + lineMost ≤ length (now out) ⌝ }
-    ensures { λ r. ⌜ Given (now (message .entry)) number at (afterCall answer (now (image .entry)) (now (map .entry)) (now (reply .entry))) (now (out .entry)) end r (now (image .exit)) (now (map .exit)) (now (reply .exit)) (now (out .exit)) ⌝ }
+    ensures { λ r. ⌜ Given (now (message .entry)) number at (afterCall answer (now (image .entry)) (now (map .entry)) (now (reply .entry)))
+        (now (out .entry)) end r (now (image .exit)) (now (map .exit)) (now (reply .exit)) (now (out .exit)) ⌝ }
 {
     let device = answer.device;
     let next = device::receive(device, true, true, READY, message, image, map, reply);
@@ -102,7 +103,9 @@ fn carry_out(
 ) -> Turn
     requires { ⌜ length (now reply) ≡ replyLength ⌝ }
     requires { ⌜ end + lineMost ≤ length (now out) ⌝ }
-    ensures { λ r. ⌜ Turned (now (capture .entry)) (itemAt (now (capture .entry)) at) number at (afterCall answer (now (image .entry)) (now (map .entry)) (now (reply .entry))) (now (out .entry)) end r (now (image .exit)) (now (map .exit)) (now (reply .exit)) (now (out .exit)) ⌝ }
+    ensures { λ r. ⌜ Turned (now (capture .entry)) (itemAt (now (capture .entry)) at) number at
+        (afterCall answer (now (image .entry)) (now (map .entry)) (now (reply .entry)))
+        (now (out .entry)) end r (now (image .exit)) (now (map .exit)) (now (reply .exit)) (now (out .exit)) ⌝ }
 {
     let walked = capture::walk_from(capture, at);
     let next = walked.at;
@@ -145,7 +148,9 @@ fn run(
     requires { ⌜ length (now reply) ≡ replyLength ⌝ }
     requires { ⌜ length (now capture) ≤ captureMost ⌝ }
     requires { ⌜ outRoom ≤ length (now out) ⌝ }
-    ensures { λ r. ⌜ Emitted (textFrom (now (capture .entry)) (suc (length (now (capture .entry)))) 0 0 (record { number = 0; length = 0; device = device; image = now (image .entry); map = now (map .entry); reply = now (reply .entry) })) (now (out .entry)) 0 (now (out .exit)) r ⌝ }
+    ensures { λ r. ⌜ Emitted (textFrom (now (capture .entry)) (suc (length (now (capture .entry)))) 0 0
+        (record { number = 0; length = 0; device = device; image = now (image .entry); map = now (map .entry); reply = now (reply .entry) }))
+        (now (out .entry)) 0 (now (out .exit)) r ⌝ }
 {
     let mut answer = Answer {
         number: 0,

@@ -4,7 +4,8 @@ use Prim.Native.Nat.{ℕ}
 use mathlib.Core.Path.{refl, sym, _∙_, ap}
 use mathlib.Core.List.{List, [], _∷_, _++_, List·Memᴰ, List·Memᴰ·head, List·Memᴰ·tail, Memᴰ·append-left, Memᴰ·append-right}
 use Rattle.upgrade.specs.Calls.{DeviceCall, given, asked, installed, GatewayCall, Call, atDevice, atGateway, Ends, Both, next, May}
-use Rattle.upgrade.specs.Clean.{arriveAtDevice, arriveAtGateway, answeredByDevice, answeredByGateway, gatewayAsked, deviceAsked, UntilSilent, silent, spoken, ending, Reached}
+use Rattle.upgrade.specs.Clean.{arriveAtDevice, arriveAtGateway, answeredByDevice, answeredByGateway, gatewayAsked, deviceAsked, UntilSilent, silent}
+use Rattle.upgrade.specs.Clean.{spoken, ending, Reached}
 use Rattle.upgrade.proofs.Folds.{after-append, allowed-last}
 
 -- all of these are on the air

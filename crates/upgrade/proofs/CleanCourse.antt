@@ -56,12 +56,14 @@ module _ (s : Setting) where
   fetches (suc n) k image map w front e here =
       let one : Spoke s w _ _ = fetched-one s k image map front (omega arith) w here (omega arith) in
       after-one w one
-      (fetches n (k + 1) _ _ (asksDevice s w) (front-more (s .content) (s .size) (some s) k image map front (omega arith) (omega arith)) (omega arith) (one .leads))
+      (fetches n (k + 1) _ _ (asksDevice s w) (front-more (s .content) (s .size) (some s) k image map front (omega arith) (omega arith)) (omega arith)
+      (one .leads))
 
   module _ (w : World) (here : At w (s .first) (gatewayIn s gateway.offer)) where
     pub fetched : Fetches (asksGateway s w)
     fetched =
-        fetches (total s - 1) 0 _ _ (asksGateway s w) (front-none (s .content) (s .size) (some s) (s .first .image) (s .first .map) (s .image-room) (s .map-room))
+        fetches (total s - 1) 0 _ _ (asksGateway s w) (front-none (s .content) (s .size) (some s) (s .first .image) (s .first .map) (s .image-room)
+        (s .map-room))
         (omega (arith, total-some s)) (announced s w here)
 
     pub ends : (v : World) → Fetched v → ending (records (s .content)) true (s .deviceReply) (s .gatewayReply) v .gateway ≡ gatewayIn s gateway.ended
@@ -69,7 +71,8 @@ module _ (s : Setting) where
         succeeded s _ _ _ _ _ (finished s _ _ _ _ _ (executed s _ _ _ _ v (f .here))) .leads .gateway-is
 
     -- whenever the device is silent after the announcement, the rest of the run ends the gateway with success
-    pub succeeds : (v : World) → Until (asksGateway s w) v → ending (records (s .content)) true (s .deviceReply) (s .gatewayReply) v .gateway ≡ gatewayIn s gateway.ended
+    pub succeeds : (v : World) → Until (asksGateway s w) v → ending (records (s .content)) true (s .deviceReply) (s .gatewayReply) v .gateway
+        ≡ gatewayIn s gateway.ended
     succeeds v until =
         let (u, other, f) = fetched in
         rw (one-silence (records (s .content)) true (s .deviceReply) (s .gatewayReply) until other) (ends u f)

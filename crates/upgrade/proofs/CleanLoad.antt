@@ -98,4 +98,5 @@ module _ (content : List ℕ) (size : ℕ) (some : 1 ≤ size) where
     pub complete : k + 1 ≡ total → take (size * (total - 1) + length bytes) (patched (k * size) bytes image) ≡ content
     complete h =
         let before : size * (total - 1) ≡ k * size = mul-comm size (total - 1) ∙ ap (λ (n : ℕ). n * size) (omega arith) in
-        rw before (filled ∙ take-all (k * size + size) content (omega (arith, total-covers (length content) size some, place-more k size, ap (λ (n : ℕ). n * size) h)))
+        rw before (filled ∙ take-all (k * size + size) content
+        (omega (arith, total-covers (length content) size some, place-more k size, ap (λ (n : ℕ). n * size) h)))

@@ -68,7 +68,8 @@ code-chosen checked content =
     or-true false = refl
 
 module _ (b : Before) (deviceReply gatewayReply : World → List ℕ) (c : CleanStart b deviceReply gatewayReply) where
-  begun : Begun (b .version) (b .size) (b .content) (pick (b .checked) (checkOf (b .content)) 0) (gateway.startOf (b .version) (b .size) (b .content) (b .checked))
+  begun : Begun (b .version) (b .size) (b .content) (pick (b .checked) (checkOf (b .content)) 0)
+      (gateway.startOf (b .version) (b .size) (b .content) (b .checked))
   begun = starts (b .version) (b .size) (b .content) (b .checked) (c .ready .gateway-started)
 
   abbrev setting : Setting

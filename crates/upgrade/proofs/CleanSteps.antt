@@ -11,7 +11,8 @@ use Rattle.basis.specs.Bytes.{same, patched}
 use Rattle.basis.proofs.Choosing.{by-cases, and-both}
 use Rattle.basis.proofs.Lists.{same-refl}
 use Rattle.message.specs.Limits.{sizeMax, isWord}
-use Rattle.message.specs.Messages.{deviceValid, announce, fragment, downloadReply, execute, resultReply, fragmentOk, gatewayValid, announceReply, fragmentRequest, downloadReport, executeReply, resultReport, installCode, found, refused, toGateway}
+use Rattle.message.specs.Messages.{deviceValid, announce, fragment, downloadReply, execute, resultReply, fragmentOk, gatewayValid, announceReply}
+use Rattle.message.specs.Messages.{fragmentRequest, downloadReport, executeReply, resultReport, installCode, found, refused, toGateway}
 use Rattle.codec.specs.Codec.{said}
 use Rattle.message.specs.declared.Fields.{Fields}
 use Rattle.device_record.specs.declared.Device.{Device}
@@ -28,7 +29,8 @@ use Rattle.upgrade.specs.Records.{DeviceEnd, deviceNext, World, records}
 use Rattle.upgrade.specs.Clean.{askedNumber}
 use Rattle.upgrade.proofs.Count.{any, call-fine}
 use Rattle.upgrade.proofs.CleanSetting.{Setting, total, fields, gatewayIn, endIn, loadingAt, updatedIn, some, size-most, total-fits, total-ok}
-use Rattle.upgrade.proofs.CleanCalls.{left, At, Spoke, aired-message, asksGateway, deviceTakes, gatewayTakes, device-number, device-exchange, gateway-exchange}
+use Rattle.upgrade.proofs.CleanCalls.{left, At, Spoke, aired-message, asksGateway, deviceTakes, gatewayTakes, device-number, device-exchange}
+use Rattle.upgrade.proofs.CleanCalls.{gateway-exchange}
 use Rattle.upgrade.proofs.CleanLoad.{Front, lowest, new, fragment-some, fragment-full, complete}
 
 -- an Idle device with another version and room takes an announcement up
@@ -85,8 +87,10 @@ module _ (s : Setting) where
     long : device-rules.fragmentLength (fields s) k (length bytes) ≡ true
     unfolding device-rules.fragmentLength
     long =
-        by-cases (λ (t : Bool). t ≡ true) (λ _. and-both (le-leb 1 (length bytes) ranged) (le-leb (length bytes) (s .size) (stretch-fits (s .content) (s .size) k)))
-        (λ n. eq-eqb (length bytes) (s .size) (fragment-full (s .content) (s .size) (some s) k image map front more (omega (arith, eqb-false (k + 1) (total s) n))))
+        by-cases (λ (t : Bool). t ≡ true) (λ _. and-both (le-leb 1 (length bytes) ranged)
+        (le-leb (length bytes) (s .size) (stretch-fits (s .content) (s .size) k)))
+        (λ n. eq-eqb (length bytes) (s .size) (fragment-full (s .content) (s .size) (some s) k image map front more
+        (omega (arith, eqb-false (k + 1) (total s) n))))
 
     -- neither past the last, nor of a wrong length, nor stored already
     tested : device-rules.fragmentNumber (fields s) k (length bytes) map ≡ 0
@@ -135,13 +139,16 @@ module _ (s : Setting) where
 
     pub reported : At w (endIn s device.loaded stored last image map) (gatewayIn s gateway.serve)
         → Spoke s w (endIn s device.acked stored last image map) (gatewayIn s gateway.run)
-    unfolding device-rules.wanted device-rules.handle device-rules.onDownloadReply gateway-rules.handle gateway-rules.onDownloadReport deviceValid gatewayValid oneOf pick
+    unfolding device-rules.wanted device-rules.handle device-rules.onDownloadReply gateway-rules.handle gateway-rules.onDownloadReport deviceValid
+        gatewayValid oneOf pick
     reported here =
-        device-exchange s w (endIn s device.loaded stored last image map) gateway.serve here refl (downloadReport 0x00) (downloadReply 0x00) refl refl (λ _. refl) refl (λ _. refl)
+        device-exchange s w (endIn s device.loaded stored last image map) gateway.serve here refl (downloadReport 0x00) (downloadReply 0x00) refl refl
+        (λ _. refl) refl (λ _. refl)
 
     pub executed : At w (endIn s device.acked stored last image map) (gatewayIn s gateway.run)
         → At (asksGateway s w) (endIn s device.installing stored last image map) (gatewayIn s gateway.run)
-    unfolding gateway-rules.wanted gateway-rules.handle gateway-rules.onExecuteReply device-rules.handle device-rules.onExecute device-rules.executeResult deviceValid gatewayValid oneOf pick
+    unfolding gateway-rules.wanted gateway-rules.handle gateway-rules.onExecuteReply device-rules.handle device-rules.onExecute
+        device-rules.executeResult deviceValid gatewayValid oneOf pick
     executed here =
         gateway-exchange s w (endIn s device.acked stored last image map) gateway.run here refl execute (executeReply 0x00) refl refl (λ _. refl)
         (aired-message toGateway (executeReply 0x00)) refl (λ _. refl)
@@ -156,7 +163,8 @@ module _ (s : Setting) where
 
     pub succeeded : At w (updatedIn s device.reporting stored last image map) (gatewayIn s gateway.run)
         → Spoke s w (updatedIn s device.idle stored last image map) (gatewayIn s gateway.ended)
-    unfolding device-rules.wanted device-rules.handle device-rules.onResultReply gateway-rules.handle gateway-rules.onResultReport deviceValid gatewayValid installCode oneOf pick
+    unfolding device-rules.wanted device-rules.handle device-rules.onResultReply gateway-rules.handle gateway-rules.onResultReport deviceValid
+        gatewayValid installCode oneOf pick
     succeeded here =
         device-exchange s w (updatedIn s device.reporting stored last image map) gateway.run here refl (resultReport 0x00 (s .version)) (resultReply 0x00)
         refl (s .version-good) (λ _. rw (same-refl (s .version))) refl (λ _. refl)

@@ -174,14 +174,17 @@ module _ (b : Before) (ready : Ready b) where
   keeps calls (atDevice c) i m =
       record {
         offer = i .offer;
-        run = device-keeps plan (worldAfter b calls) c (executed-later (records (b .content)) (start b) calls (atDevice c)) (installed-later (records (b .content)) (start b) calls (atDevice c))
-            (executed-now (records (b .content)) (start b) calls (atDevice c)) (λ x h n. installed-now (records (b .content)) (start b) calls (atDevice c) h x n) m (i .run);
+        run = device-keeps plan (worldAfter b calls) c (executed-later (records (b .content)) (start b) calls (atDevice c))
+            (installed-later (records (b .content)) (start b) calls (atDevice c))
+            (executed-now (records (b .content)) (start b) calls (atDevice c))
+            (λ x h n. installed-now (records (b .content)) (start b) calls (atDevice c) h x n) m (i .run);
       }
   keeps calls (atGateway c) i m =
       let g : Gateway = worldAfter b calls .gateway in
       record {
         offer = offer-kept (b .content) g _ (heardIn c) (gateway-turns (b .content) g c) ∙ i .offer;
-        run = run-later plan _ (executed-later (records (b .content)) (start b) calls (atGateway c)) (installed-later (records (b .content)) (start b) calls (atGateway c))
+        run = run-later plan _ (executed-later (records (b .content)) (start b) calls (atGateway c))
+            (installed-later (records (b .content)) (start b) calls (atGateway c))
             (gateway-keeps plan (worldAfter b calls) c (i .offer) m (i .run));
       }
 
@@ -240,7 +243,8 @@ module _ (b : Before) (ready : Ready b) where
         high : n ≤ gateway.totalOf n size * size
         high = omega (arith, total-covers n size some, mul-comm size (gateway.totalOf n size))
 
-    answered-whole : (c : Call Bool) → Run plan w E I → May w c → Executed (records (b .content)) w c → Whole (b .content) (next (records (b .content)) w c .deviceEnd)
+    answered-whole : (c : Call Bool) → Run plan w E I → May w c → Executed (records (b .content)) w c
+        → Whole (b .content) (next (records (b .content)) w c .deviceEnd)
     unfolding next
     answered-whole (atDevice (given supported pcp condition message reply)) r m x =
         let c : DeviceCall Bool = given supported pcp condition message reply in

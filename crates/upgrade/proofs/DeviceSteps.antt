@@ -22,8 +22,10 @@ use Rattle.gateway.specs.Record as gateway
 use Rattle.gateway.proofs.Package.{stretch-fits, stretch-within}
 use Rattle.upgrade.specs.Records.{DeviceEnd, World}
 use Rattle.upgrade.proofs.Air.{Air, air-none, air-one, air-map, air-more}
-use Rattle.upgrade.proofs.DeviceCalls.{endOf, DoesAt, StillAt, BeginsAt, ResumesAt, StoresAt, stillAt, begunAt, storedAt, movedAt, outcomeAt, Moved, moves-to, holding-below, completion-low, other-version}
-use Rattle.upgrade.proofs.Run.{Plan, SoundEnd, NotEnded, Offering, Stretch, RunsTarget, GatewaySaid, DeviceSaid, more-served, more-said, Untaken, Taken, Run, untaken, taken}
+use Rattle.upgrade.proofs.DeviceCalls.{endOf, DoesAt, StillAt, BeginsAt, ResumesAt, StoresAt, stillAt, begunAt, storedAt, movedAt, outcomeAt, Moved}
+use Rattle.upgrade.proofs.DeviceCalls.{moves-to, holding-below, completion-low, other-version}
+use Rattle.upgrade.proofs.Run.{Plan, SoundEnd, NotEnded, Offering, Stretch, RunsTarget, GatewaySaid, DeviceSaid, more-served, more-said, Untaken, Taken}
+use Rattle.upgrade.proofs.Run.{Run, untaken, taken}
 
 -- P holds of the message that the input brings
 abbrev pub Brought : (DeviceMessage → Type 0) → Input → Type 0

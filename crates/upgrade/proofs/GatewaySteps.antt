@@ -6,7 +6,8 @@ use mathlib.Core.Path.{_≡_, refl, sym, _∙_, ap, subst}
 use mathlib.Core.List.{List, _++_}
 use mathlib.Core.Logic.{_⊎_, inl, inr}
 use Rattle.message.specs.declared.Fields.{Fields}
-use Rattle.message.specs.Messages.{DeviceMessage, query, announce, fragment, downloadReply, execute, resultReply, GatewayMessage, announceReply, resultReport, Reading, refused, toDevice, toGateway}
+use Rattle.message.specs.Messages.{DeviceMessage, query, announce, fragment, downloadReply, execute, resultReply, GatewayMessage, announceReply, resultReport}
+use Rattle.message.specs.Messages.{Reading, refused, toDevice, toGateway}
 use Rattle.codec.specs.Codec.{readOf}
 use Rattle.gateway.specs.declared.Gateway.{Gateway}
 use Rattle.gateway.specs.Record as gateway

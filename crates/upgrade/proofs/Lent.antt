@@ -19,7 +19,8 @@ use Rattle.device.specs.Rules.{After, announceResult, resumes, receiveOf, nextM
 use Rattle.device.proofs.Holds.{Rule}
 use Rattle.device.proofs.Views
 use Rattle.device.proofs.Views.{receive-does, install-does}
-use Rattle.device.proofs.Sound.{Download, Sound, sound-record, sound-room, sound-under, sound-begun, sound-stored, sound-idle, sound-moved, sound-executed, sound-outcome, sound-does}
+use Rattle.device.proofs.Sound.{Download, Sound, sound-record, sound-room, sound-under, sound-begun, sound-stored, sound-idle, sound-moved, sound-executed}
+use Rattle.device.proofs.Sound.{sound-outcome, sound-does}
 use Rattle.device.proofs.Numbers.{heard-most, ask-neither, install-neither}
 use Rattle.device_record.proofs.Guarded.{asking-passed, receiving-passed}
 

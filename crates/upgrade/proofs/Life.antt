@@ -25,7 +25,8 @@ use Rattle.upgrade.specs.Fold.{after}
 use Rattle.upgrade.specs.Calls.{DeviceCall, given, asked, installed}
 use Rattle.upgrade.specs.Records.{DeviceEnd, deviceNext}
 use Rattle.upgrade.specs.Held.{Held, heldBy, heldNext, heldAfter}
-use Rattle.upgrade.proofs.DeviceCalls.{endOf, DoesAt, StillAt, BeginsAt, StoresAt, MovesAt, begunAt, storedAt, inputOf, outIn, call-does, next-is, Moved, moves-to}
+use Rattle.upgrade.proofs.DeviceCalls.{endOf, DoesAt, StillAt, BeginsAt, StoresAt, MovesAt, begunAt, storedAt, inputOf, outIn, call-does, next-is, Moved}
+use Rattle.upgrade.proofs.DeviceCalls.{moves-to}
 use Rattle.upgrade.proofs.Run.{SoundEnd}
 
 -- the fragment is among those held
@@ -117,7 +118,8 @@ begins-held e h input condition a i b =
     rw i (pick-yes (eqb 0 0) _ _ refl ∙ pick-yes _ _ _ (rw (b .result, b .not-resumed)))
 
 stores-held : (e : DeviceEnd) (h : Held) (input : Input) (condition index : ℕ) (bytes : List ℕ)
-    → input ≡ hears condition (found (fragment 0x00 index bytes)) → heldOn e 0 input h ≡ record { fields = h .fields; fragments = (index, bytes) ∷ h .fragments }
+    → input ≡ hears condition (found (fragment 0x00 index bytes)) → heldOn e 0 input h
+    ≡ record { fields = h .fields; fragments = (index, bytes) ∷ h .fragments }
 unfolding heldOn heldBy pick
 stores-held e h input condition index bytes i = rw i
 

@@ -10,7 +10,8 @@ use Rattle.checksum.specs.Check.{doubled, entryOf, step, register, checkOf, zer
 use Rattle.message.specs.Limits.{sizeOk, totalOk, isWord}
 use Rattle.message.specs.Version.{printable, front, allZero, goodVersion}
 use Rattle.message.specs.Recognition.{startHolds, versionByteHolds, codeHolds, checkHolds, lengthHolds, recognition}
-use Rattle.message.specs.Messages.{execute, resultReport, deviceCode, deviceData, fragmentOk, deviceValid, deviceFields, gatewayCode, gatewayData, installCode, gatewayValid, gatewayFields}
+use Rattle.message.specs.Messages.{execute, resultReport, deviceCode, deviceData, fragmentOk, deviceValid, deviceFields, gatewayCode, gatewayData, installCode}
+use Rattle.message.specs.Messages.{gatewayValid, gatewayFields}
 use Rattle.codec.specs.Codec.{sealed, frame, bytesOf, readOf, writeOf, said}
 use Rattle.bitmap.specs.Bitmap.{marked, mark, cleared, missingFrom, lowestMissing}
 use Rattle.device_record.specs.Record as device-record
@@ -20,11 +21,11 @@ use Rattle.gateway.specs.Rules as gateway
 use Rattle.upgrade.specs.Calls.{installed, atDevice, atGateway, aired, next, May}
 use Rattle.upgrade.specs.Records.{deviceNext, deviceSays, deviceNumber, gatewayNext, gatewaySays}
 use Rattle.upgrade.specs.Held.{heldBy, heldNext, heldAfter}
-use Rattle.upgrade.specs.Witnesses.{new, toldDevice, askedDevice, toldGateway, askedGateway, content, fresh, half, download, calls, Witnesses}
-use Rattle.upgrade.specs.Demand3.{deviceThen, gatewayThen, heldThen, Ready, start}
+use Rattle.upgrade.specs.Witnesses.{new, toldDevice, askedDevice, toldGateway, content, download, Witnesses}
 
 -- the one fragment held is the package's
-pub first-only : (index : ℕ) (bytes : List ℕ) → List·Memᴰ {A = ℕ × List ℕ} (index, bytes) ((0, take 32 content) ∷ []) → bytes ≡ gateway-record.fragmentOf content 32 index
+pub first-only : (index : ℕ) (bytes : List ℕ) → List·Memᴰ {A = ℕ × List ℕ} (index, bytes) ((0, take 32 content) ∷ []) → bytes
+    ≡ gateway-record.fragmentOf content 32 index
 unfolding gateway-record.fragmentOf
 first-only index bytes m =
     let same-pair : _≡_ {A = ℕ × List ℕ} (index, bytes) (0, take 32 content) = List·Memᴰ·eq-of-singleton m in
@@ -41,7 +42,8 @@ unfolding pick refusal oneOf part same over patched doubled entryOf step registe
     missingFrom lowestMissing device-record.holding device-record.conditionOk device-record.newOf device-record.downloadOk
     device-record.recordOk device-record.mapBytes device-record.roomOk device.begin device.store device.onQuery device.onAnnounce
     device.onFragment device.onDownloadReply device.onExecute device.onResultReply device.handle device.receiveOf device.wanted
-    device.nextMessageOf device.installFinishedOf device.announceResult device.sameFields device.resumes device.fragmentLength device.fragmentNumber device.passes
+    device.nextMessageOf device.installFinishedOf device.announceResult device.sameFields device.resumes device.fragmentLength device.fragmentNumber
+    device.passes
     device.completion device.executeResult gateway-record.totalOf gateway-record.lengthOk gateway-record.fragmentOf gateway-record.startOf
     gateway-record.recordOk gateway.asked gateway.serving gateway.fragmentReply gateway.onQueryReply gateway.onAnnounceReply
     gateway.onFragmentRequest gateway.onDownloadReport gateway.onExecuteReply gateway.onResultReport gateway.handle gateway.receiveOf

@@ -48,7 +48,8 @@ module _ (w : World) where
   is-executed content (asked reply) k i s = absurd (let z : _≡_ {A = ℕ} 0 1 = cc in omega arith)
   is-executed content (installed code) k i s = absurd (let z : _≡_ {A = ℕ} 0 1 = cc in omega arith)
 
-  is-installed : (content : List ℕ) (c : DeviceCall Bool) → inputOf c ≡ installs 0x00 → outIn (w .deviceEnd) c .number ≡ 0 → Installed (records content) w (atDevice c)
+  is-installed : (content : List ℕ) (c : DeviceCall Bool) → inputOf c ≡ installs 0x00 → outIn (w .deviceEnd) c .number ≡ 0
+      → Installed (records content) w (atDevice c)
   unfolding deviceNumber
   is-installed content (given supported pcp condition message reply) i n = absurd (let z : _≡_ {A = ℕ} 0 1 = cc in omega arith)
   is-installed content (asked reply) i n = absurd (let z : _≡_ {A = ℕ} 0 1 = cc in omega arith)

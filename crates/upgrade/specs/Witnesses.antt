@@ -3,10 +3,11 @@ use Prim.Native.Nat.{ℕ}
 use mathlib.Core.Path.{_≡_}
 use mathlib.Core.Bool.{Bool, true}
 use mathlib.Core.List.{List, [], _∷_, _++_}
-use lib.ListN.{length, take, replicate}
+use lib.ListN.{take, replicate}
 use Rattle.message.specs.declared.Fields.{Fields}
 use Rattle.message.specs.Limits.{deviceRoom, gatewayRoom}
-use Rattle.message.specs.Messages.{DeviceMessage, GatewayMessage, announce, fragment, downloadReply, execute, queryReply, announceReply, fragmentRequest, downloadReport, resultReport, toDevice, toGateway}
+use Rattle.message.specs.Messages.{DeviceMessage, GatewayMessage, announce, fragment, execute, queryReply, announceReply, fragmentRequest, downloadReport}
+use Rattle.message.specs.Messages.{resultReport, toDevice, toGateway}
 use Rattle.checksum.specs.Check.{checkOf}
 use Rattle.codec.specs.Codec.{bytesOf}
 use Rattle.device_record.specs.Record.{loading}
@@ -14,7 +15,6 @@ use Rattle.gateway.specs.Record as gateway
 use Rattle.upgrade.specs.Fold.{Allowed}
 use Rattle.upgrade.specs.Calls.{DeviceCall, given, asked, installed, GatewayCall, Call, atDevice, atGateway, next, May}
 use Rattle.upgrade.specs.Records.{records, World}
-use Rattle.upgrade.specs.Held.{Held}
 use Rattle.upgrade.specs.Claims.{Success, reached, InstalledBefore}
 use Rattle.upgrade.specs.Demand3.{Before, deviceThen, gatewayThen, heldThen, Ready, start}
 use Rattle.upgrade.specs.Clean.{CleanStart}

@@ -22,7 +22,8 @@ shared-slice-read-if1 : tie.Need-shared-slice-read-if1 Inv-loop μ-loop
 shared-slice-read-if1 c = search needs
 
 returns : tie.Need-returns Inv-loop μ-loop
-returns c = sym (one-of-here (c .before .before .before .before .args .b) (c .before .before .before .before .args .list .now) (c .before .before .before .loop .i) (c .before .before .loop-test .taken) (c .if1 .taken)) ∙ c .before .before .before .loop .inv .1
+returns c = sym (one-of-here (c .before .before .before .before .args .b) (c .before .before .before .before .args .list .now)
+    (c .before .before .before .loop .i) (c .before .before .loop-test .taken) (c .if1 .taken)) ∙ c .before .before .before .loop .inv .1
 
 add-i : tie.Need-add-i Inv-loop μ-loop
 add-i c = omega arith
@@ -31,10 +32,15 @@ loop-less : tie.Need-loop-less Inv-loop μ-loop
 loop-less c = omega arith
 
 loop-again : tie.Need-loop-again Inv-loop μ-loop
-loop-again c = (omega arith, sym (one-of-later (c .before .before .before .before .args .b) (c .before .before .before .before .args .list .now) (c .before .before .before .loop .i) (c .before .before .loop-test .taken) (c .if1 .left)) ∙ c .before .before .before .loop .inv .1)
+loop-again c = (
+  omega arith,
+  sym (one-of-later (c .before .before .before .before .args .b) (c .before .before .before .before .args .list .now)
+      (c .before .before .before .loop .i) (c .before .before .loop-test .taken) (c .if1 .left)) ∙ c .before .before .before .loop .inv .1,
+)
 
 returns-2 : tie.Need-returns-2 Inv-loop μ-loop
-returns-2 c = sym (one-of-none (c .before .before .args .b) (c .before .before .args .list .now) (c .before .loop .i) (c .loop-test .left)) ∙ c .before .loop .inv .1
+returns-2 c = sym (one-of-none (c .before .before .args .b) (c .before .before .args .list .now) (c .before .loop .i) (c .loop-test .left))
+    ∙ c .before .loop .inv .1
 
 pub one-of-spec : {M : Type 1} → statement M
 one-of-spec =

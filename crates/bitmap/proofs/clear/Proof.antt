@@ -23,7 +23,11 @@ unfolding cleared over
 loop-holds c = (omega arith, refl)
 
 slice-write-map : tie.Need-slice-write-map Inv-loop μ-loop
-slice-write-map c = rw (c .before .loop .inv .1, length-cleared (c .before .loop .i) (c .before .before .before .before .args .map .now) (omega arith)) (omega arith)
+slice-write-map c = rw (
+  c .before .loop .inv .1,
+  length-cleared (c .before .loop .i) (c .before .before .before .before .args .map .now)
+      (omega arith),
+) (omega arith)
 
 add-i : tie.Need-add-i Inv-loop μ-loop
 add-i c = omega arith

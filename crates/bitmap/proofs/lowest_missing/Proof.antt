@@ -24,7 +24,8 @@ marked-requires : tie.Need-marked-requires Inv-loop μ-loop
 marked-requires c κs = search needs
 
 returns : tie.Need-returns Inv-loop μ-loop
-returns c = sym (missing-here _ _ _ (c .before .before .loop-test .taken) (sym (c .before .marked .ensures) ∙ not-true _ (c .if1 .taken))) ∙ c .before .before .before .loop .inv .1
+returns c = sym (missing-here _ _ _ (c .before .before .loop-test .taken) (sym (c .before .marked .ensures) ∙ not-true _ (c .if1 .taken)))
+    ∙ c .before .before .before .loop .inv .1
 
 add-i : tie.Need-add-i Inv-loop μ-loop
 add-i c = omega arith
@@ -33,10 +34,18 @@ loop-less : tie.Need-loop-less Inv-loop μ-loop
 loop-less c = omega arith
 
 loop-again : tie.Need-loop-again Inv-loop μ-loop
-loop-again c = (omega arith, sym (missing-later _ _ _ (c .before .before .loop-test .taken) (sym (c .before .marked .ensures) ∙ not-false _ (c .if1 .left))) ∙ c .before .before .before .loop .inv .1)
+loop-again c = (
+  omega arith,
+  sym (missing-later _ _ _ (c .before .before .loop-test .taken)
+      (sym (c .before .marked .ensures) ∙ not-false _ (c .if1 .left))) ∙ c .before .before .before .loop .inv .1,
+)
 
 returns-2 : tie.Need-returns-2 Inv-loop μ-loop
-returns-2 c = omega (arith, missing-none (c .before .before .before .args .map .now) (c .before .loop .i) (c .before .before .before .args .total) (c .loop-test .left))
+returns-2 c = omega (
+  arith,
+  missing-none (c .before .before .before .args .map .now) (c .before .loop .i) (c .before .before .before .args .total)
+      (c .loop-test .left),
+)
 
 pub lowest-missing-spec : {M : Type 1} → statement M
 lowest-missing-spec =

@@ -30,9 +30,11 @@ part-result-end c = search needs
 returns : tie.Need-returns
 returns c =
     record {
-      place = ap (λ (n : ℕ). (c .before .before .before .before .args .capture .ptr .0, n + c .before .before .before .before .args .capture .ptr .1)) (c .before .before .least .ensures);
+      place = ap (λ (n : ℕ). (c .before .before .before .before .args .capture .ptr .0, n + c .before .before .before .before .args .capture .ptr .1))
+          (c .before .before .least .ensures);
       bytes =
-          clamped (c .before .before .before .before .args .capture .now) (c .before .before .before .before .args .start) (c .before .before .before .before .args .length) _ _ (c .before .before .least .ensures) (c .before .least2 .ensures);
+          clamped (c .before .before .before .before .args .capture .now) (c .before .before .before .before .args .start)
+          (c .before .before .before .before .args .length) _ _ (c .before .before .least .ensures) (c .before .least2 .ensures);
     }
 
 pub part-at-spec : {M : Type 1} → statement M

@@ -22,7 +22,8 @@ wrong-mark-requires c κs = search needs
 
 returns-3 : tie.Need-returns-3
 returns-3 c =
-    wrong-mark (c .before .before .before .before .before .before .args .capture .now) _ (c .before .before .before .before .if1 .left) (c .before .before .before .if2 .left)
+    wrong-mark (c .before .before .before .before .before .before .args .capture .now) _ (c .before .before .before .before .if1 .left)
+    (c .before .before .before .if2 .left)
     (c .before .before .word-at .ensures) (sym (c .before .wrong-mark .ensures) ∙ c .if3 .taken)
 
 add-word-at : tie.Need-add-word-at
@@ -42,13 +43,15 @@ add-start c = search needs
 
 returns-4 : tie.Need-returns-4
 returns-4 c =
-    cut-short (c .before .before .before .before .before .before .before .before .args .capture .now) _ (c .before .before .before .before .before .before .if1 .left)
+    cut-short (c .before .before .before .before .before .before .before .before .args .capture .now) _
+    (c .before .before .before .before .before .before .if1 .left)
     (c .before .before .before .before .before .if2 .left) (c .before .before .before .before .word-at .ensures)
     (sym (c .before .before .before .wrong-mark .ensures) ∙ c .before .before .if3 .left) (c .before .word-at2 .ensures) (c .if4 .taken)
 
 returns-5 : tie.Need-returns-5
 returns-5 c =
-    found (c .before .before .before .before .before .before .before .before .args .capture .now) _ (c .before .before .before .before .before .before .if1 .left)
+    found (c .before .before .before .before .before .before .before .before .args .capture .now) _
+    (c .before .before .before .before .before .before .if1 .left)
     (c .before .before .before .before .before .if2 .left) (c .before .before .before .before .word-at .ensures)
     (sym (c .before .before .before .wrong-mark .ensures) ∙ c .before .before .if3 .left) (c .before .word-at2 .ensures) (c .if4 .left)
 

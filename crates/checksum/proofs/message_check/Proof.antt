@@ -1,90 +1,75 @@
+-- `checksum::message_check` meets its contract: three runs, before, over and behind the check field, the middle one over 00: together the run over
+-- the message with its field zeroed. Assumes nothing.
 use Rattle.checksum.proofs.Register.{register-fits, check-by-parts}
 use native.Mathlib.Omega.{arith}
-use mathlib.Core.Path.{_≡_}
 use borrow.Author.Needs.{needs}
 use Rattle.checksum.proofs.message_check.Statement.{statement}
 use Rattle.checksum.proofs.message_check.Tie as tie
-use Rattle.checksum.proofs.message_check.Reads as reads
-use Rattle.checksum.proofs.message_check.Lts as lts
-use Rattle.basis.proofs.least.Reads as least-reads
-use Rattle.checksum.proofs.run.Reads as run-reads
-use Rattle.checksum.proofs.table.Reads as table-reads
 
--- src/lib.rt:71:17
 table-requires : tie.Need-table-requires
 table-requires c κs = search needs
 
--- src/lib.rt:73:9
 least-requires : tie.Need-least-requires
 least-requires c κs = search needs
 
--- src/lib.rt:74:9
 least-requires-2 : tie.Need-least-requires-2
 least-requires-2 c κs = search needs
 
--- src/lib.rt:75:33
 sub-run : tie.Need-sub-run
 sub-run c = search needs
 
--- src/lib.rt:75:33
 part-run-start : tie.Need-part-run-start
 part-run-start c = search needs
 
--- src/lib.rt:75:33
 part-run-end : tie.Need-part-run-end
 part-run-end c = search needs
 
--- src/lib.rt:75:9
 run-requires : tie.Need-run-requires
 run-requires c κs = search needs
 
--- src/lib.rt:76:48
 sub-run-2 : tie.Need-sub-run-2
 sub-run-2 c = search needs
 
--- src/lib.rt:76:38
 sub-run-3 : tie.Need-sub-run-3
 sub-run-3 c = search needs
 
--- src/lib.rt:76:38
 part-run-start-2 : tie.Need-part-run-start-2
 part-run-start-2 c = search needs
 
--- src/lib.rt:76:38
 part-run-end-2 : tie.Need-part-run-end-2
 part-run-end-2 c = search needs
 
--- src/lib.rt:76:9
 run-requires-2 : tie.Need-run-requires-2
-run-requires-2 c κs = (c .before .before .before .before .before .before .before .before .table .ensures, rw (c .before .before .before .run .ensures) (register-fits _ 0 (omega arith)))
+run-requires-2 c κs = (
+  c .before .before .before .before .before .before .before .before .table .ensures,
+  rw (c .before .before .before .run .ensures) (register-fits _ 0 (omega arith)),
+)
 
--- src/lib.rt:77:33
 sub-run-4 : tie.Need-sub-run-4
 sub-run-4 c = search needs
 
--- src/lib.rt:77:33
 part-run-start-3 : tie.Need-part-run-start-3
 part-run-start-3 c = search needs
 
--- src/lib.rt:77:33
 part-run-end-3 : tie.Need-part-run-end-3
 part-run-end-3 c = search needs
 
--- src/lib.rt:77:9
 run-requires-3 : tie.Need-run-requires-3
 run-requires-3 c κs = (
   c .before .before .before .before .before .before .before .before .before .before .before .table .ensures,
-  rw (c .before .before .run2 .ensures) (register-fits _ _ (rw (c .before .before .before .before .before .before .run .ensures) (register-fits _ 0 (omega arith)))),
+  rw (c .before .before .run2 .ensures) (register-fits _ _ (rw (c .before .before .before .before .before .before .run .ensures)
+      (register-fits _ 0 (omega arith)))),
 )
 
--- src/lib.rt:78:5
 cast-result : tie.Need-cast-result
 cast-result c = search needs
 
--- src/lib.rt:68:1
 returns : tie.Need-returns
 returns c =
-    check-by-parts (c .before .before .before .before .before .before .before .before .before .before .before .before .before .before .args .message .now) _ _ _ _ _ (c .before .before .before .before .before .before .before .before .before .before .before .least .ensures) (c .before .before .before .before .before .before .before .before .before .before .least2 .ensures) (c .before .before .before .before .before .before .before .run .ensures)
+    check-by-parts (c .before .before .before .before .before .before .before .before .before .before .before .before .before .before .args .message
+    .now) _ _ _ _ _ (c .before .before .before .before .before .before .before .before .before .before .before .least .ensures)
+    (c .before .before .before .before .before .before .before .before .before .before .least2 .ensures)
+    (c .before .before .before .before .before .before .before .run .ensures)
     (c .before .before .before .run2 .ensures) (c .run3 .ensures)
 
 pub message-check-spec : {M : Type 1} → statement M

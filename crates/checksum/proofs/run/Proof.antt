@@ -1,3 +1,5 @@
+-- `checksum::run` meets its contract: the loop steps byte by byte: the register so far, run over what is left, is the whole register. Assumes
+-- nothing.
 use Prim.Native.Nat.{_%_}
 use lib.Bits.{bitXor}
 use lib.ListN.{getD}
@@ -10,8 +12,6 @@ use native.Mathlib.Omega.{arith}
 use Prim.Native.Nat.{_≤_, _<_, _-_}
 use Rattle.checksum.proofs.run.Statement.{statement}
 use Rattle.checksum.proofs.run.Tie as tie
-use Rattle.checksum.proofs.run.Reads as reads
-use Rattle.checksum.proofs.run.Lts as lts
 
 abbrev Inv-loop : tie.InvT-loop
 Inv-loop table start bytes r₀ i₀ r i = (i ≤ length bytes) × (r < 65536) × (register r (drop i bytes) ≡ register start bytes)
@@ -19,52 +19,45 @@ Inv-loop table start bytes r₀ i₀ r i = (i ≤ length bytes) × (r < 65536) �
 abbrev μ-loop : tie.MeasureT-loop
 μ-loop table start bytes r₀ i₀ r i = length bytes - i
 
--- src/lib.rt:49:5
 loop-holds : tie.Need-loop-holds Inv-loop μ-loop
 loop-holds c = (omega arith, c .pre .1, refl)
 
--- src/lib.rt:50:17
 shared-slice-read-b : tie.Need-shared-slice-read-b Inv-loop μ-loop
 shared-slice-read-b c = search needs
 
--- src/lib.rt:50:17
 cast-b : tie.Need-cast-b Inv-loop μ-loop
 cast-b c = omega (arith, c .shared-slice-known .given (c .before .before .loop .i))
 
--- src/lib.rt:51:17
 cast-k : tie.Need-cast-k Inv-loop μ-loop
 cast-k c = search needs
 
--- src/lib.rt:52:26
 mul-r : tie.Need-mul-r Inv-loop μ-loop
 mul-r c = search needs
 
--- src/lib.rt:52:26
 element-copy-out-r : tie.Need-element-copy-out-r Inv-loop μ-loop
 element-copy-out-r c = omega arith
 
--- src/lib.rt:52:26
 cast-r : tie.Need-cast-r Inv-loop μ-loop
 cast-r c =
     omega (
       arith,
-      table-fits (c .before .before .before .before .args .table .now) (bitXor (c .before .before .before .loop .r) (getD (c .before .before .before .before .args .bytes .now) (c .before .before .before .loop .i) 0) % 256) (c .before .before .before .before .pre .0)
+      table-fits (c .before .before .before .before .args .table .now)
+          (bitXor (c .before .before .before .loop .r) (getD (c .before .before .before .before .args .bytes .now)
+          (c .before .before .before .loop .i) 0) % 256) (c .before .before .before .before .pre .0)
           (omega arith),
     )
 
--- src/lib.rt:53:9
 add-i : tie.Need-add-i Inv-loop μ-loop
 add-i c = omega arith
 
--- src/lib.rt:49:5
 loop-less : tie.Need-loop-less Inv-loop μ-loop
 loop-less c = omega arith
 
--- src/lib.rt:49:5
 loop-again : tie.Need-loop-again Inv-loop μ-loop
-loop-again c = turn _ (c .before .before .before .before .args .bytes .now) (c .before .before .before .before .args .start) _ _ (c .before .before .before .before .pre .0) (c .before .before .before .loop .inv .1) (c .before .before .loop-test .taken) (c .before .before .before .loop .inv .2)
+loop-again c = turn _ (c .before .before .before .before .args .bytes .now) (c .before .before .before .before .args .start) _ _
+    (c .before .before .before .before .pre .0) (c .before .before .before .loop .inv .1) (c .before .before .loop-test .taken)
+    (c .before .before .before .loop .inv .2)
 
--- src/lib.rt:42:1
 returns : tie.Need-returns Inv-loop μ-loop
 returns c = ended (c .before .before .args .bytes .now) _ _ _ (c .loop-test .left) (c .before .loop .inv .2)
 

@@ -19,7 +19,8 @@ same-length c = search needs
 
 returns : tie.Need-returns
 unfolding nextMessageOf said
-returns c = rw (← c .before .asking .ensures) (ap (λ (r : Reading GatewayMessage). said toGateway r (c .before .before .before .before .before .before .args .reply .now)) (sym (pick-no _ _ _ (ne-eqb _ 0 (c .if1 .taken)))))
+returns c = rw (← c .before .asking .ensures) (ap (λ (r : Reading GatewayMessage). said toGateway r
+    (c .before .before .before .before .before .before .args .reply .now)) (sym (pick-no _ _ _ (ne-eqb _ 0 (c .if1 .taken)))))
 
 wanted-requires : tie.Need-wanted-requires
 wanted-requires c κs = search needs
@@ -30,14 +31,24 @@ spoken-version-requires c κs = search needs
 say-requires : tie.Need-say-requires
 say-requires c κs =
     let s = c .before .before .before .before .before .before .before .before .before in
-    let passed = asking-passed (s .args .device) (s .args .image .now) (s .args .map .now) (s .args .reply .now) (sym (c .before .before .before .before .asking .ensures) ∙ c .before .before .before .if1 .left) in (passed .room, rw (c .before .spoken-version .ensures, c .before .before .wanted .ensures) (wanted-allowed _ (s .args .map .now) (passed .kept)))
+    let passed = asking-passed (s .args .device) (s .args .image .now) (s .args .map .now) (s .args .reply .now)
+    (sym (c .before .before .before .before .asking .ensures) ∙ c .before .before .before .if1 .left) in (
+      passed .room,
+      rw (c .before .spoken-version .ensures, c .before .before .wanted .ensures) (wanted-allowed _ (s .args .map .now) (passed .kept)),
+    )
 
 same-length-2 : tie.Need-same-length-2
 same-length-2 c = search needs
 
 returns-2 : tie.Need-returns-2
 unfolding nextMessageOf
-returns-2 c = c .before .before .say .ensures ∙ rw (c .before .before .before .before .spoken-version .ensures, c .before .before .before .before .before .wanted .ensures, ← c .before .before .before .before .before .before .before .asking .ensures) (ap (λ (r : Reading GatewayMessage). said toGateway r (c .before .before .before .before .before .before .before .before .before .before .before .before .args .reply .now)) (sym (pick-yes _ _ _ (eq-eqb _ 0 (c .before .before .before .before .before .before .if1 .left)))))
+returns-2 c = c .before .before .say .ensures ∙ rw (
+  c .before .before .before .before .spoken-version .ensures,
+  c .before .before .before .before .before .wanted .ensures,
+  ← c .before .before .before .before .before .before .before .asking .ensures,
+)
+    (ap (λ (r : Reading GatewayMessage). said toGateway r (c .before .before .before .before .before .before .before .before .before .before .before
+    .before .args .reply .now)) (sym (pick-yes _ _ _ (eq-eqb _ 0 (c .before .before .before .before .before .before .if1 .left)))))
 
 pub next-message-spec : {M : Type 1} → statement M
 next-message-spec =

@@ -36,7 +36,22 @@ read-to-device-requires c κs = search needs
 handle-requires : tie.Need-handle-requires
 handle-requires c κs =
     let s = c .before .before .before .before .before .before .before .before .before .before .before .before .before in
-    let passed = receiving-passed (s .args .device) (s .args .image .now) (s .args .map .now) (s .args .reply .now) _ (sym (c .before .before .before .before .before .receiving .ensures) ∙ c .before .before .before .before .if1 .left) in (passed .1 .room, (passed .0, (passed .1 .kept, (passed .1 .held, awaited (s .args .supported) (s .args .pcp) (s .args .message .now) (part (s .args .message .now) 8 16) (drop 11 (s .args .message .now)) (c .before .before .before .read-to-device .result) (c .before .before .before .read-to-device .ensures)))))
+    let passed = receiving-passed (s .args .device) (s .args .image .now) (s .args .map .now) (s .args .reply .now) _
+    (sym (c .before .before .before .before .before .receiving .ensures) ∙ c .before .before .before .before .if1 .left) in (
+      passed .1 .room,
+      (
+        passed .0,
+        (
+          passed .1 .kept,
+          (
+            passed .1 .held,
+            awaited (s .args .supported) (s .args .pcp) (s .args .message .now)
+                (part (s .args .message .now) 8 16) (drop 11 (s .args .message .now)) (c .before .before .before .read-to-device .result)
+                (c .before .before .before .read-to-device .ensures),
+          ),
+        ),
+      ),
+    )
 
 same-length-4 : tie.Need-same-length-4
 same-length-4 c = search needs
@@ -49,7 +64,12 @@ same-length-6 c = search needs
 
 returns-2 : tie.Need-returns-2
 unfolding receiveOf
-returns-2 c = c .before .before .before .before .before .before .handle .ensures ∙ rw (c .before .before .before .before .before .before .before .before .before .before .read-to-device .ensures, ← c .before .before .before .before .before .before .before .before .before .before .before .before .receiving .ensures) (sym (pick-yes _ _ _ (eq-eqb _ 0 (c .before .before .before .before .before .before .before .before .before .before .before .if1 .left))))
+returns-2 c = c .before .before .before .before .before .before .handle .ensures
+    ∙ rw (
+      c .before .before .before .before .before .before .before .before .before .before .read-to-device .ensures,
+      ← c .before .before .before .before .before .before .before .before .before .before .before .before .receiving .ensures,
+    )
+    (sym (pick-yes _ _ _ (eq-eqb _ 0 (c .before .before .before .before .before .before .before .before .before .before .before .if1 .left))))
 
 pub receive-spec : {M : Type 1} → statement M
 receive-spec =

@@ -30,7 +30,16 @@ pick-requires-5 c κs = search needs
 
 returns : tie.Need-returns
 unfolding announceResult
-returns c = rw (c .pick5 .ensures, c .before .pick4 .ensures, c .before .before .before .pick3 .ensures, c .before .before .before .before .before .pick2 .ensures, c .before .before .before .before .before .before .pick .ensures, c .before .before .before .before .same-version .ensures, c .before .before .before .before .before .before .before .map-bytes .ensures, c .before .before .before .before .before .before .before .before .product .ensures)
+returns c = rw (
+  c .pick5 .ensures,
+  c .before .pick4 .ensures,
+  c .before .before .before .pick3 .ensures,
+  c .before .before .before .before .before .pick2 .ensures,
+  c .before .before .before .before .before .before .pick .ensures,
+  c .before .before .before .before .same-version .ensures,
+  c .before .before .before .before .before .before .before .map-bytes .ensures,
+  c .before .before .before .before .before .before .before .before .product .ensures,
+)
 
 pub announce-result-spec : {M : Type 1} → statement M
 announce-result-spec =

@@ -24,7 +24,13 @@ pick-requires-4 c κs = search needs
 
 returns : tie.Need-returns
 unfolding executeResult
-returns c = rw (c .pick4 .ensures, c .before .pick3 .ensures, c .before .before .pick2 .ensures, c .before .before .before .pick .ensures, c .before .before .before .before .one-of .ensures)
+returns c = rw (
+  c .pick4 .ensures,
+  c .before .pick3 .ensures,
+  c .before .before .pick2 .ensures,
+  c .before .before .before .pick .ensures,
+  c .before .before .before .before .one-of .ensures,
+)
 
 pub execute-result-spec : {M : Type 1} → statement M
 execute-result-spec =

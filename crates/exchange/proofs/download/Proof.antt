@@ -1,12 +1,9 @@
+-- `exchange::download` is safe, and ends: the turns that are left become fewer. Assumes nothing.
 use borrow.Author.Needs.{needs}
 use native.Mathlib.Omega.{arith}
 use Prim.Native.Nat.{_≤_, _-_}
 use Rattle.exchange.proofs.download.Statement.{statement}
 use Rattle.exchange.proofs.download.Tie as tie
-use Rattle.exchange.proofs.download.Reads as reads
-use Rattle.exchange.proofs.download.Lts as lts
-use Rattle.exchange.proofs.device_round.Reads as device-round-reads
-use Rattle.exchange.proofs.downloading.Reads as downloading-reads
 
 abbrev Inv-loop : tie.InvT-loop
 Inv-loop turns next₀ i₀ next i = i ≤ turns
@@ -14,35 +11,27 @@ Inv-loop turns next₀ i₀ next i = i ≤ turns
 abbrev μ-loop : tie.MeasureT-loop
 μ-loop turns next₀ i₀ next i = turns - i
 
--- src/main.rt:259:5
 loop-holds : tie.Need-loop-holds Inv-loop μ-loop
 loop-holds c = omega arith
 
--- src/main.rt:260:13
 downloading-requires : tie.Need-downloading-requires Inv-loop μ-loop
 downloading-requires c κs = search needs
 
--- src/main.rt:261:13
 returns : tie.Need-returns Inv-loop μ-loop
 returns c = search needs
 
--- src/main.rt:263:9
 device-round-requires : tie.Need-device-round-requires Inv-loop μ-loop
 device-round-requires c κs = search needs
 
--- src/main.rt:264:9
 add-i : tie.Need-add-i Inv-loop μ-loop
 add-i c = omega arith
 
--- src/main.rt:259:5
 loop-less : tie.Need-loop-less Inv-loop μ-loop
 loop-less c = omega arith
 
--- src/main.rt:259:5
 loop-again : tie.Need-loop-again Inv-loop μ-loop
 loop-again c = omega arith
 
--- src/main.rt:256:1
 returns-2 : tie.Need-returns-2 Inv-loop μ-loop
 returns-2 c = search needs
 

@@ -1,37 +1,27 @@
+-- `exchange::gateway_hears` is safe: the buffers in use end within their arrays. Assumes nothing.
 use borrow.Author.Needs.{needs, length-unmapped}
 use native.Mathlib.Omega.{arith}
 use Prim.Native.Nat.{ℕ}
 use Rattle.exchange.proofs.gateway_hears.Statement.{statement}
 use Rattle.exchange.proofs.gateway_hears.Tie as tie
-use Rattle.exchange.proofs.gateway_hears.Reads as reads
-use Rattle.exchange.proofs.gateway_hears.Lts as lts
-use Rattle.exchange.proofs.gateway_receives.Reads as gateway-receives-reads
-use Rattle.exchange.proofs.spoken.Reads as spoken-reads
-use Rattle.exchange.proofs.wrote.Reads as wrote-reads
 
 -- The lengths of up and down, a Pair's first fields, are part of what is known of the parameter.
 
--- src/main.rt:160:16
 mul-from : tie.Need-mul-from
 mul-from c = search needs
 
--- src/main.rt:161:14
 mul-to : tie.Need-mul-to
 mul-to c = search needs
 
--- src/main.rt:167:26
 add-spoken : tie.Need-add-spoken
 add-spoken c = search needs
 
--- src/main.rt:167:16
 sub-spoken : tie.Need-sub-spoken
 sub-spoken c = search needs
 
--- src/main.rt:167:16
 part-spoken-start : tie.Need-part-spoken-start
 part-spoken-start c = search needs
 
--- src/main.rt:167:16
 part-spoken-end : tie.Need-part-spoken-end
 part-spoken-end c =
     omega (
@@ -40,23 +30,18 @@ part-spoken-end c =
           (c .before .before .before .before .before .before .good .0 .1 .1 .0 .1 .0 .1),
     )
 
--- src/main.rt:167:9
 spoken-requires : tie.Need-spoken-requires
 spoken-requires c κs = search needs
 
--- src/main.rt:169:23
 add-gateway-receives : tie.Need-add-gateway-receives
 add-gateway-receives c = search needs
 
--- src/main.rt:169:9
 sub-gateway-receives : tie.Need-sub-gateway-receives
 sub-gateway-receives c = search needs
 
--- src/main.rt:169:9
 part-down-start : tie.Need-part-down-start
 part-down-start c = search needs
 
--- src/main.rt:169:9
 part-down-end : tie.Need-part-down-end
 part-down-end c =
     omega (
@@ -65,15 +50,12 @@ part-down-end c =
           (c .before .before .before .before .before .before .before .before .before .good .0 .1 .1 .1 .0 .1 .0 .1),
     )
 
--- src/main.rt:165:9
 gateway-receives-requires : tie.Need-gateway-receives-requires
 gateway-receives-requires c κs = search needs
 
--- src/main.rt:172:9
 wrote-requires : tie.Need-wrote-requires
 wrote-requires c κs = search needs
 
--- src/main.rt:159:1
 returns : tie.Need-returns
 returns c = search needs
 

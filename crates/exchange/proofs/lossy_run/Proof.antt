@@ -1,13 +1,9 @@
+-- `exchange::lossy_run` is safe, and ends: the turns that are left become fewer. Assumes nothing.
 use borrow.Author.Needs.{needs}
 use native.Mathlib.Omega.{arith}
 use Prim.Native.Nat.{_≤_, _-_}
 use Rattle.exchange.proofs.lossy_run.Statement.{statement}
 use Rattle.exchange.proofs.lossy_run.Tie as tie
-use Rattle.exchange.proofs.lossy_run.Reads as reads
-use Rattle.exchange.proofs.lossy_run.Lts as lts
-use Rattle.exchange.proofs.next_choice.Reads as next-choice-reads
-use Rattle.exchange.proofs.over.Reads as over-reads
-use Rattle.exchange.proofs.turn.Reads as turn-reads
 
 abbrev Inv-loop : tie.InvT-loop
 Inv-loop turns next₀ choice₀ i₀ next choice i = i ≤ turns
@@ -15,39 +11,30 @@ Inv-loop turns next₀ choice₀ i₀ next choice i = i ≤ turns
 abbrev μ-loop : tie.MeasureT-loop
 μ-loop turns next₀ choice₀ i₀ next choice i = turns - i
 
--- src/main.rt:318:5
 loop-holds : tie.Need-loop-holds Inv-loop μ-loop
 loop-holds c = omega arith
 
--- src/main.rt:319:12
 over-requires : tie.Need-over-requires Inv-loop μ-loop
 over-requires c κs = search needs
 
--- src/main.rt:320:13
 returns : tie.Need-returns Inv-loop μ-loop
 returns c = search needs
 
--- src/main.rt:322:9
 next-choice-requires : tie.Need-next-choice-requires Inv-loop μ-loop
 next-choice-requires c κs = search needs
 
--- src/main.rt:323:9
 turn-requires : tie.Need-turn-requires Inv-loop μ-loop
 turn-requires c κs = search needs
 
--- src/main.rt:324:9
 add-i : tie.Need-add-i Inv-loop μ-loop
 add-i c = omega arith
 
--- src/main.rt:318:5
 loop-less : tie.Need-loop-less Inv-loop μ-loop
 loop-less c = omega arith
 
--- src/main.rt:318:5
 loop-again : tie.Need-loop-again Inv-loop μ-loop
 loop-again c = omega arith
 
--- src/main.rt:314:1
 returns-2 : tie.Need-returns-2 Inv-loop μ-loop
 returns-2 c = search needs
 

@@ -1,42 +1,37 @@
+-- `layout::gateway_at` meets its contract: each field is read at its place. Assumes nothing.
 use Rattle.layout.specs.Layout.{gatewayAt}
 use borrow.Author.Needs.{needs}
 use Rattle.layout.proofs.gateway_at.Statement.{statement}
 use Rattle.layout.proofs.gateway_at.Tie as tie
-use Rattle.layout.proofs.gateway_at.Reads as reads
-use Rattle.layout.proofs.gateway_at.Lts as lts
-use Rattle.basis.proofs.byte_at.Reads as byte-at-reads
-use Rattle.basis.proofs.word_at.Reads as word-at-reads
-use Rattle.layout.proofs.length_at.Reads as length-at-reads
-use Rattle.message.proofs.version_at.Reads as version-at-reads
 
--- src/lib.rt:111:9
 version-at-requires : tie.Need-version-at-requires
 version-at-requires c κs = search needs
 
--- src/lib.rt:113:16
 byte-at-requires : tie.Need-byte-at-requires
 byte-at-requires c κs = search needs
 
--- src/lib.rt:114:17
 byte-at-requires-2 : tie.Need-byte-at-requires-2
 byte-at-requires-2 c κs = search needs
 
--- src/lib.rt:116:15
 word-at-requires : tie.Need-word-at-requires
 word-at-requires c κs = search needs
 
--- src/lib.rt:117:17
 length-at-requires : tie.Need-length-at-requires
 length-at-requires c κs = search needs
 
--- src/lib.rt:118:15
 word-at-requires-2 : tie.Need-word-at-requires-2
 word-at-requires-2 c κs = search needs
 
--- src/lib.rt:108:1
 returns : tie.Need-returns
 unfolding gatewayAt
-returns c = rw (c .before .before .before .before .before .version-at .ensures, c .before .before .before .before .byte-at .ensures, c .before .before .before .byte-at2 .ensures, c .before .before .word-at .ensures, c .before .length-at .ensures, c .word-at2 .ensures)
+returns c = rw (
+  c .before .before .before .before .before .version-at .ensures,
+  c .before .before .before .before .byte-at .ensures,
+  c .before .before .before .byte-at2 .ensures,
+  c .before .before .word-at .ensures,
+  c .before .length-at .ensures,
+  c .word-at2 .ensures,
+)
 
 pub gateway-at-spec : {M : Type 1} → statement M
 gateway-at-spec =

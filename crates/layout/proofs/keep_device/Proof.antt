@@ -1,31 +1,25 @@
+-- `layout::keep_device` meets its contract: written where the number is 0 and there is room, else left. Assumes nothing.
 use Rattle.layout.proofs.Layouts.{kept-refused, kept-short, kept-new}
 use mathlib.Core.Path.{sym, _∙_}
 use borrow.Author.Needs.{needs}
 use Rattle.layout.proofs.keep_device.Statement.{statement}
 use Rattle.layout.proofs.keep_device.Tie as tie
-use Rattle.layout.proofs.keep_device.Reads as reads
-use Rattle.layout.proofs.keep_device.Lts as lts
-use Rattle.layout.proofs.put_device.Reads as put-device-reads
 
--- src/lib.rt:88:9
 returns : tie.Need-returns
 returns c = sym (kept-refused _ _ _ _ (c .if1 .taken))
 
--- src/lib.rt:91:9
 returns-2 : tie.Need-returns-2
 returns-2 c = sym (kept-short _ _ _ _ (c .before .if1 .left) (c .if2 .taken))
 
--- src/lib.rt:93:5
 put-device-requires : tie.Need-put-device-requires
 put-device-requires c κs = search needs
 
--- src/lib.rt:84:1
 same-length : tie.Need-same-length
 same-length c = search needs
 
--- src/lib.rt:84:1
 returns-3 : tie.Need-returns-3
-returns-3 c = c .before .before .put-device .ensures ∙ sym (kept-new _ _ _ _ (c .before .before .before .before .before .if1 .left) (c .before .before .before .before .if2 .left))
+returns-3 c = c .before .before .put-device .ensures ∙ sym (kept-new _ _ _ _ (c .before .before .before .before .before .if1 .left)
+    (c .before .before .before .before .if2 .left))
 
 pub keep-device-spec : {M : Type 1} → statement M
 keep-device-spec = tie.close (tie.spec returns returns-2 put-device-requires same-length returns-3)

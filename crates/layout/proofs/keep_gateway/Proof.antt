@@ -1,31 +1,25 @@
+-- `layout::keep_gateway` meets its contract: written where the number is 0 and there is room, else left. Assumes nothing.
 use Rattle.layout.proofs.Layouts.{kept-refused, kept-short, kept-new}
 use mathlib.Core.Path.{sym, _∙_}
 use borrow.Author.Needs.{needs}
 use Rattle.layout.proofs.keep_gateway.Statement.{statement}
 use Rattle.layout.proofs.keep_gateway.Tie as tie
-use Rattle.layout.proofs.keep_gateway.Reads as reads
-use Rattle.layout.proofs.keep_gateway.Lts as lts
-use Rattle.layout.proofs.put_gateway.Reads as put-gateway-reads
 
--- src/lib.rt:161:9
 returns : tie.Need-returns
 returns c = sym (kept-refused _ _ _ _ (c .if1 .taken))
 
--- src/lib.rt:164:9
 returns-2 : tie.Need-returns-2
 returns-2 c = sym (kept-short _ _ _ _ (c .before .if1 .left) (c .if2 .taken))
 
--- src/lib.rt:166:5
 put-gateway-requires : tie.Need-put-gateway-requires
 put-gateway-requires c κs = search needs
 
--- src/lib.rt:157:1
 same-length : tie.Need-same-length
 same-length c = search needs
 
--- src/lib.rt:157:1
 returns-3 : tie.Need-returns-3
-returns-3 c = c .before .before .put-gateway .ensures ∙ sym (kept-new _ _ _ _ (c .before .before .before .before .before .if1 .left) (c .before .before .before .before .if2 .left))
+returns-3 c = c .before .before .put-gateway .ensures ∙ sym (kept-new _ _ _ _ (c .before .before .before .before .before .if1 .left)
+    (c .before .before .before .before .if2 .left))
 
 pub keep-gateway-spec : {M : Type 1} → statement M
 keep-gateway-spec =

@@ -1,65 +1,68 @@
+-- `layout::put_device` meets its contract: each field is a patch where the last one ended, so that all together are the record at the front.
+-- Assumes nothing.
 use Rattle.layout.proofs.Layouts.{device-put}
-use native.Mathlib.Omega.{arith}
 use mathlib.Core.Path.{_≡_}
 use lib.ListN.{length}
 use borrow.Author.Needs.{needs}
 use Rattle.layout.proofs.put_device.Statement.{statement}
 use Rattle.layout.proofs.put_device.Tie as tie
-use Rattle.layout.proofs.put_device.Reads as reads
-use Rattle.layout.proofs.put_device.Lts as lts
-use Rattle.basis.proofs.put.Reads as put-reads
-use Rattle.layout.proofs.device_numbers.Reads as device-numbers-reads
 
--- src/lib.rt:68:19
 device-numbers-requires : tie.Need-device-numbers-requires
 device-numbers-requires c κs = search needs
 
--- src/lib.rt:76:27
 slice-aggregate-put : tie.Need-slice-aggregate-put
 slice-aggregate-put c = search needs
 
--- src/lib.rt:76:5
 put-requires : tie.Need-put-requires
 put-requires c κs = search needs
 
--- src/lib.rt:77:27
 slice-aggregate-put-2 : tie.Need-slice-aggregate-put-2
 slice-aggregate-put-2 c = search needs
 
--- src/lib.rt:77:5
 put-requires-2 : tie.Need-put-requires-2
 put-requires-2 c κs =
-    let l : length (c .before .before .before .before .before .before .before .before .before .before .before .before .args .device .running) ≡ 16 = search needs in
+    let l : length (c .before .before .before .before .before .before .before .before .before .before .before .before .args .device .running)
+    ≡ 16 = search needs in
     search needs
 
--- src/lib.rt:78:28
 slice-aggregate-put-3 : tie.Need-slice-aggregate-put-3
 slice-aggregate-put-3 c = search needs
 
--- src/lib.rt:78:5
 put-requires-3 : tie.Need-put-requires-3
 put-requires-3 c κs =
-    let l : length (c .before .before .before .before .before .before .before .before .before .before .before .before .before .before .before .before .before .args .device .fields .version) ≡ 16 = search needs in
+    let l : length (c .before .before .before .before .before .before .before .before .before .before .before .before .before .before .before .before
+    .before .args .device .fields .version) ≡ 16 = search needs in
     search needs
 
--- src/lib.rt:79:28
 slice-aggregate-put-4 : tie.Need-slice-aggregate-put-4
 slice-aggregate-put-4 c = search needs
 
--- src/lib.rt:79:5
 put-requires-4 : tie.Need-put-requires-4
 put-requires-4 c κs = search needs
 
--- src/lib.rt:60:1
 same-length : tie.Need-same-length
 same-length c = search needs
 
--- src/lib.rt:60:1
 returns : tie.Need-returns
 returns c =
-    let r : length (c .before .before .before .before .before .before .before .before .before .before .before .before .before .before .before .before .before .before .before .before .before .before .before .before .before .args .device .running) ≡ 16 = search needs in
-    let v : length (c .before .before .before .before .before .before .before .before .before .before .before .before .before .before .before .before .before .before .before .before .before .before .before .before .before .args .device .fields .version) ≡ 16 = search (needs, c .before .before .before .before .before .before .before .before .before .before .before .before .before .before .before .before .before .before .before .before .before .before .before .before .before .good) in
-    device-put (c .before .before .before .before .before .before .before .before .before .before .before .before .before .before .before .before .before .before .before .before .before .before .before .before .before .args .device) (c .before .before .before .before .before .before .before .before .before .before .before .before .before .before .before .before .before .before .before .before .before .before .before .before .before .args .buffer .now) _ _ _ _ _ r v (c .before .before .before .before .before .before .before .before .before .before .before .before .before .before .before .before .before .before .before .before .device-numbers .ensures) (c .before .before .before .before .before .before .before .before .before .before .before .before .before .before .before .before .before .put .ensures) (c .before .before .before .before .before .before .before .before .before .before .before .before .put2 .ensures) (c .before .before .before .before .before .before .before .put3 .ensures) (c .before .before .put4 .ensures)
+    let r : length (c .before .before .before .before .before .before .before .before .before .before .before .before .before .before .before .before
+    .before .before .before .before .before .before .before .before .before .args .device .running) ≡ 16 = search needs in
+    let v : length (c .before .before .before .before .before .before .before .before .before .before .before .before .before .before .before .before
+    .before .before .before .before .before .before .before .before .before .args .device .fields .version)
+    ≡ 16 = search (
+      needs,
+      c .before .before .before .before .before .before .before .before .before .before .before .before .before .before
+          .before .before .before .before .before .before .before .before .before .before .before .good,
+    ) in
+    device-put (c .before .before .before .before .before .before .before .before .before .before .before .before .before .before .before .before
+    .before .before .before .before .before .before .before .before .before .args .device)
+    (c .before .before .before .before .before .before .before .before .before .before .before .before .before .before .before .before .before
+    .before .before .before .before .before .before .before .before .args .buffer .now) _ _ _ _ _ r v
+    (c .before .before .before .before .before .before .before .before .before .before .before .before .before .before .before .before .before
+    .before .before .before .device-numbers .ensures) (c .before .before .before .before .before .before .before .before .before .before .before
+    .before .before .before .before .before .before .put .ensures)
+    (c .before .before .before .before .before .before .before .before .before .before .before .before .put2 .ensures)
+    (c .before .before .before .before .before .before .before .put3 .ensures) (c .before .before .put4 .ensures)
 
 pub put-device-spec : {M : Type 1} → statement M
 put-device-spec =

@@ -22,7 +22,19 @@ part-put-line-end : tie.Need-part-put-line-end
 part-put-line-end c = search needs
 
 put-line-requires : tie.Need-put-line-requires
-put-line-requires c κs = line-fits (c .before .before .before .before .before .before .before .before .before .before .before .before .before .before .before .before .before .before .before .before .before .args .end) (c .before .before .before .before .before .before .before .before .before .before .before .before .before .before .before .before .before .before .before .before .before .args .out .now) (c .before .before .before .before .before .before .before .before .before .before .before .before .before .before .before .before .before .before .before .before .before .args .number) (c .before .before .before .before .before .before .before .before .before .before .before .receive .result .number) (c .before .before .before .before .before .before .before .before .before .before .before .receive .result .device .phase) (c .before .before .before .before .least .result - 0) (c .before .before .before .before .before .before .before .before .before .before .before .receive .last .1 .1 .1 .1 .1 .1 .1 .0) (c .before .before .before .before .before .before .before .before .before .before .before .before .before .before .before .before .before .before .before .before .before .pre .1) (c .before .before .before .before .before .before .reply .given ∙ c .before .before .before .before .before .before .before .before .before .before .before .before .before .before .before .before .before .before .before .before .before .pre .0)
+put-line-requires c κs = line-fits (c .before .before .before .before .before .before .before .before .before .before .before .before .before .before
+    .before .before .before .before .before .before .before .args .end)
+    (c .before .before .before .before .before .before .before .before .before .before .before .before .before .before .before .before .before .before
+    .before .before .before .args .out .now) (c .before .before .before .before .before .before .before .before .before .before .before .before
+    .before .before .before .before .before .before .before .before .before .args .number)
+    (c .before .before .before .before .before .before .before .before .before .before .before .receive .result .number)
+    (c .before .before .before .before .before .before .before .before .before .before .before .receive .result .device .phase)
+    (c .before .before .before .before .least .result - 0) (c .before .before .before .before .before .before .before .before .before .before .before
+    .receive .last .1 .1 .1 .1 .1 .1 .1 .0) (c .before .before .before .before .before .before .before .before .before .before .before .before .before
+    .before .before .before .before .before .before .before .before .pre .1)
+    (c .before .before .before .before .before .before .reply .given
+    ∙ c .before .before .before .before .before .before .before .before .before .before .before .before .before .before .before .before .before
+    .before .before .before .before .pre .0)
 
 same-length : tie.Need-same-length
 same-length c = c .before .before .before .before .before .before .before .before .before .before .before .before .before .image .given
@@ -37,7 +49,11 @@ same-length-4 : tie.Need-same-length-4
 same-length-4 c = c .before .out .given
 
 returns : tie.Need-returns
-returns c = was-given _ _ _ (c .before .before .before .before .before .before .before .before .before .before .before .before .before .before .before .before .before .before .before .before .before .before .before .before .args .answer) _ _ _ _ _ (c .before .before .before .before .before .before .before .before .before .before .before .before .before .before .receive .result) _ _ _ _ _ _ (c .before .before .before .before .before .before .before .before .before .before .before .before .before .before .receive .ensures) (c .before .before .before .before .before .before .before .least .ensures) (c .before .before .put-line .ensures)
+returns c = was-given _ _ _ (c .before .before .before .before .before .before .before .before .before .before .before .before .before .before .before
+    .before .before .before .before .before .before .before .before .before .args .answer) _ _ _ _ _
+    (c .before .before .before .before .before .before .before .before .before .before .before .before .before .before .receive .result) _ _ _ _ _ _
+    (c .before .before .before .before .before .before .before .before .before .before .before .before .before .before .receive .ensures)
+    (c .before .before .before .before .before .before .before .least .ensures) (c .before .before .put-line .ensures)
 
 pub give-spec : {M : Type 1} → statement M
 give-spec =

@@ -19,7 +19,8 @@ same-length : tie.Need-same-length
 same-length c = search needs
 
 returns-2 : tie.Need-returns-2
-returns-2 c = too-long (c .before .before .before .before .before .before .before .before .args .capture .now) _ (c .before .before .before .before .before .if1 .left) (c .before .before .before .before .if2 .taken) (c .before .before .put-number .ensures)
+returns-2 c = too-long (c .before .before .before .before .before .before .before .before .args .capture .now) _
+    (c .before .before .before .before .before .if1 .left) (c .before .before .before .before .if2 .taken) (c .before .before .put-number .ensures)
 
 new-requires : tie.Need-new-requires
 new-requires c κs = tt
@@ -40,7 +41,11 @@ same-length-2 : tie.Need-same-length-2
 same-length-2 c = search needs
 
 returns-3 : tie.Need-returns-3
-returns-3 c = replays (c .before .before .before .before .before .before .before .before .before .before .before .before .before .before .before .before .args .capture .now) _ (c .before .before .before .before .before .before .before .before .before .before .before .before .before .if1 .left) (c .before .before .before .before .before .before .before .before .before .before .before .before .if2 .left) (c .before .before .before .before .before .before .before .before .before .before .before .new .ensures) (c .before .before .before .before .before .run .ensures)
+returns-3 c = replays (c .before .before .before .before .before .before .before .before .before .before .before .before .before .before .before
+    .before .args .capture .now) _ (c .before .before .before .before .before .before .before .before .before .before .before .before .before .if1
+    .left) (c .before .before .before .before .before .before .before .before .before .before .before .before .if2 .left)
+    (c .before .before .before .before .before .before .before .before .before .before .before .new .ensures)
+    (c .before .before .before .before .before .run .ensures)
 
 pub replay-spec : {M : Type 1} → statement M
 replay-spec =

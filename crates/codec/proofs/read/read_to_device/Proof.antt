@@ -1,3 +1,5 @@
+-- `codec::read::read_to_device` meets its contract: recognised first, then the candidate of its code, kept where its fields are allowed and their
+-- bytes are all the data. Assumes nothing.
 use Rattle.message.specs.Coded.{deviceMessage, validOf}
 use Rattle.codec.specs.Parts.{dataOf}
 use Rattle.codec.proofs.Reading.{bytes-drop, device-starts, read-refused, read-found, read-bad}
@@ -6,21 +8,10 @@ use Rattle.message.specs.Messages.{toDevice}
 use Rattle.basis.proofs.Lists.{length-part}
 use Rattle.basis.specs.Bytes.{Bytes, part}
 use lib.ListN.{length, drop}
-use Prim.Native.Nat.{ℕ}
-use mathlib.Core.List.{List}
-use mathlib.Core.Path.{_≡_, sym, _∙_, ap}
+use mathlib.Core.Path.{_≡_, sym, ap}
 use borrow.Author.Needs.{needs}
 use Rattle.codec.proofs.read.read_to_device.Statement.{statement}
 use Rattle.codec.proofs.read.read_to_device.Tie as tie
-use Rattle.codec.proofs.read.read_to_device.Reads as reads
-use Rattle.codec.proofs.read.read_to_device.Lts as lts
-use Rattle.codec.proofs.parts.data_len.Reads as data-len-reads
-use Rattle.codec.proofs.parts.device_parts.Reads as device-parts-reads
-use Rattle.message.proofs.device_valid.Reads as device-valid-reads
-use Rattle.codec.proofs.read.device_candidate.Reads as device-candidate-reads
-use Rattle.codec.proofs.read.fragment_data.Reads as fragment-data-reads
-use Rattle.message.proofs.recognise.Reads as recognise-reads
-use Rattle.message.proofs.version_at.Reads as version-at-reads
 
 bytes : (c : tie.After-device-valid) → Bytes (c .before .before .before .before .before .before .before .before .before .args .message .now)
 unfolding Bytes
@@ -28,59 +19,62 @@ bytes c i = c .before .before .before .before .before .before .before .before .s
 
 -- what the code tests is what is meant, at the version text and the data that the message holds
 valid : (c : tie.After-device-valid)
-    → c .device-valid .result ≡ validOf toDevice (deviceMessage (c .before .before .before .before .before .device-candidate .result) (part (c .before .before .before .before .before .before .before .before .before .args .message .now) 8 16) (drop 11 (c .before .before .before .before .before .before .before .before .before .args .message .now)))
+    → c .device-valid .result ≡ validOf toDevice (deviceMessage (c .before .before .before .before .before .device-candidate .result)
+    (part (c .before .before .before .before .before .before .before .before .before .args .message .now) 8 16)
+    (drop 11 (c .before .before .before .before .before .before .before .before .before .args .message .now)))
 valid c = rw (c .before .before .before .before .version-at .ensures, c .before .before .before .fragment-data .ensures) at (c .device-valid .ensures)
 
 len : (c : tie.After-device-valid)
-    → c .before .data-len .result ≡ length (dataOf toDevice (deviceMessage (c .before .before .before .before .before .device-candidate .result) (part (c .before .before .before .before .before .before .before .before .before .args .message .now) 8 16) (drop 11 (c .before .before .before .before .before .before .before .before .before .args .message .now))))
-len c = length-laid toDevice _ _ _ _ (part (c .before .before .before .before .before .before .before .before .before .args .message .now) 8 16) (drop 11 (c .before .before .before .before .before .before .before .before .before .args .message .now)) (c .before .before .device-parts .ensures) (search needs) (length-part _ 8 16) (ap length (sym (c .before .before .before .fragment-data .ensures))) (c .before .data-len .ensures)
+    → c .before .data-len .result ≡ length (dataOf toDevice (deviceMessage (c .before .before .before .before .before .device-candidate .result)
+    (part (c .before .before .before .before .before .before .before .before .before .args .message .now) 8 16)
+    (drop 11 (c .before .before .before .before .before .before .before .before .before .args .message .now))))
+len c = length-laid toDevice _ _ _ _ (part (c .before .before .before .before .before .before .before .before .before .args .message .now) 8 16)
+    (drop 11 (c .before .before .before .before .before .before .before .before .before .args .message .now))
+    (c .before .before .device-parts .ensures) (search needs) (length-part _ 8 16)
+    (ap length (sym (c .before .before .before .fragment-data .ensures))) (c .before .data-len .ensures)
 
--- src/read.rt:75:9
 recognise-requires : tie.Need-recognise-requires
 recognise-requires c κs = search needs
 
--- src/read.rt:77:9
 returns : tie.Need-returns
-returns c = read-refused toDevice (c .before .before .before .args .supported) (c .before .before .before .args .pcp) (c .before .before .before .args .message .now) _ (c .before .recognise .ensures) (c .if1 .taken)
+returns c = read-refused toDevice (c .before .before .before .args .supported) (c .before .before .before .args .pcp)
+    (c .before .before .before .args .message .now) _ (c .before .recognise .ensures) (c .if1 .taken)
 
--- src/read.rt:79:9
 device-candidate-requires : tie.Need-device-candidate-requires
 device-candidate-requires c κs = search needs
 
--- src/read.rt:80:9
 version-at-requires : tie.Need-version-at-requires
 version-at-requires c κs = search needs
 
--- src/read.rt:81:9
 fragment-data-requires : tie.Need-fragment-data-requires
 fragment-data-requires c κs = search needs
 
--- src/read.rt:82:24
 device-parts-requires : tie.Need-device-parts-requires
 device-parts-requires c κs = search needs
 
--- src/read.rt:82:9
 data-len-requires : tie.Need-data-len-requires
 data-len-requires c κs = search needs
 
--- src/read.rt:83:8
 device-valid-requires : tie.Need-device-valid-requires
 device-valid-requires c κs = search needs
 
--- src/read.rt:83:48
 add-if2 : tie.Need-add-if2
 add-if2 c = search needs
 
--- src/read.rt:72:1
 returns-2 : tie.Need-returns-2
 returns-2 c =
-    read-found toDevice _ _ (c .before .before .before .before .before .before .before .before .before .before .args .message .now) _ (bytes (c .before)) (device-starts _ _ (bytes-drop 8 _ (bytes (c .before)))) (c .before .before .before .before .before .before .before .before .recognise .ensures) (c .before .before .before .before .before .before .before .if1 .left) _ _ _
+    read-found toDevice _ _ (c .before .before .before .before .before .before .before .before .before .before .args .message .now) _
+    (bytes (c .before)) (device-starts _ _ (bytes-drop 8 _ (bytes (c .before))))
+    (c .before .before .before .before .before .before .before .before .recognise .ensures)
+    (c .before .before .before .before .before .before .before .if1 .left) _ _ _
     (c .before .before .before .before .before .before .device-candidate .ensures) (valid (c .before)) (len (c .before)) (c .if2 .taken)
 
--- src/read.rt:72:1
 returns-3 : tie.Need-returns-3
 returns-3 c =
-    read-bad toDevice _ _ (c .before .before .before .before .before .before .before .before .before .before .args .message .now) _ (bytes (c .before)) (device-starts _ _ (bytes-drop 8 _ (bytes (c .before)))) (c .before .before .before .before .before .before .before .before .recognise .ensures) (c .before .before .before .before .before .before .before .if1 .left) _ _ _
+    read-bad toDevice _ _ (c .before .before .before .before .before .before .before .before .before .before .args .message .now) _
+    (bytes (c .before)) (device-starts _ _ (bytes-drop 8 _ (bytes (c .before))))
+    (c .before .before .before .before .before .before .before .before .recognise .ensures)
+    (c .before .before .before .before .before .before .before .if1 .left) _ _ _
     (c .before .before .before .before .before .before .device-candidate .ensures) (valid (c .before)) (len (c .before)) (c .if2 .left)
 
 pub read-to-device-spec : {M : Type 1} → statement M

@@ -1,5 +1,7 @@
-use mathlib.Core.Path.{_≡_, refl, sym, _∙_, ap}
-use mathlib.Core.List.{List, []}
+-- `codec::read::read_to_gateway` meets its contract: recognised first, then the candidate of its code, kept where its fields are allowed and their
+-- bytes are all the data. Assumes nothing.
+use mathlib.Core.Path.{_≡_, refl, _∙_, ap}
+use mathlib.Core.List.{[]}
 use Prim.Native.Nat.{ℕ}
 use lib.ListN.{length}
 use Rattle.basis.specs.Bytes.{Bytes, part}
@@ -13,80 +15,76 @@ use Rattle.codec.proofs.Reading.{bytes-drop, gateway-starts, read-refus
 use borrow.Author.Needs.{needs}
 use Rattle.codec.proofs.read.read_to_gateway.Statement.{statement}
 use Rattle.codec.proofs.read.read_to_gateway.Tie as tie
-use Rattle.codec.proofs.read.read_to_gateway.Reads as reads
-use Rattle.codec.proofs.read.read_to_gateway.Lts as lts
-use Rattle.codec.proofs.parts.data_len.Reads as data-len-reads
-use Rattle.codec.proofs.parts.gateway_parts.Reads as gateway-parts-reads
-use Rattle.message.proofs.gateway_valid.Reads as gateway-valid-reads
-use Rattle.codec.proofs.read.gateway_candidate.Reads as gateway-candidate-reads
-use Rattle.codec.proofs.read.version_place.Reads as version-place-reads
-use Rattle.message.proofs.recognise.Reads as recognise-reads
-use Rattle.message.proofs.version_at.Reads as version-at-reads
 
 bytes : (c : tie.After-gateway-valid) → Bytes (c .before .before .before .before .before .before .before .before .before .args .message .now)
 unfolding Bytes
 bytes c i = c .before .before .before .before .before .before .before .before .shared-slice-known .given i .fits
 
 -- what the code tests is what is meant, at the version text that the message holds
-text : (c : tie.After-gateway-valid) → c .before .before .before .version-at .result ≡ part (c .before .before .before .before .before .before .before .before .before .args .message .now) (versionPlace (c .before .before .before .before .before .gateway-candidate .result)) 16
-text c = c .before .before .before .version-at .ensures ∙ ap (λ (at : ℕ). part (c .before .before .before .before .before .before .before .before .before .args .message .now) at 16) (c .before .before .before .before .version-place .ensures)
+text : (c : tie.After-gateway-valid) → c .before .before .before .version-at .result
+    ≡ part (c .before .before .before .before .before .before .before .before .before .args .message .now)
+    (versionPlace (c .before .before .before .before .before .gateway-candidate .result)) 16
+text c = c .before .before .before .version-at .ensures ∙ ap (λ (at : ℕ). part
+    (c .before .before .before .before .before .before .before .before .before .args .message .now) at 16)
+    (c .before .before .before .before .version-place .ensures)
 
 valid : (c : tie.After-gateway-valid)
-    → c .gateway-valid .result ≡ validOf toGateway (gatewayMessage (c .before .before .before .before .before .gateway-candidate .result) (part (c .before .before .before .before .before .before .before .before .before .args .message .now) (versionPlace (c .before .before .before .before .before .gateway-candidate .result)) 16))
+    → c .gateway-valid .result ≡ validOf toGateway (gatewayMessage (c .before .before .before .before .before .gateway-candidate .result)
+    (part (c .before .before .before .before .before .before .before .before .before .args .message .now)
+    (versionPlace (c .before .before .before .before .before .gateway-candidate .result)) 16))
 valid c = rw (text c) at (c .gateway-valid .ensures)
 
 len : (c : tie.After-gateway-valid)
-    → c .before .data-len .result ≡ length (dataOf toGateway (gatewayMessage (c .before .before .before .before .before .gateway-candidate .result) (part (c .before .before .before .before .before .before .before .before .before .args .message .now) (versionPlace (c .before .before .before .before .before .gateway-candidate .result)) 16)))
+    → c .before .data-len .result ≡ length (dataOf toGateway (gatewayMessage (c .before .before .before .before .before .gateway-candidate .result)
+    (part (c .before .before .before .before .before .before .before .before .before .args .message .now)
+    (versionPlace (c .before .before .before .before .before .gateway-candidate .result)) 16)))
 len c =
-    length-laid toGateway _ _ _ _ (part (c .before .before .before .before .before .before .before .before .before .args .message .now) (versionPlace (c .before .before .before .before .before .gateway-candidate .result)) 16) [] (c .before .before .gateway-parts .ensures) (search needs)
+    length-laid toGateway _ _ _ _ (part (c .before .before .before .before .before .before .before .before .before .args .message .now)
+    (versionPlace (c .before .before .before .before .before .gateway-candidate .result)) 16) [] (c .before .before .gateway-parts .ensures) (search needs)
     (length-part _ (versionPlace (c .before .before .before .before .before .gateway-candidate .result)) 16) refl (c .before .data-len .ensures)
 
--- src/read.rt:94:9
 recognise-requires : tie.Need-recognise-requires
 recognise-requires c κs = search needs
 
--- src/read.rt:96:9
 returns : tie.Need-returns
-returns c = read-refused toGateway (c .before .before .before .args .supported) (c .before .before .before .args .pcp) (c .before .before .before .args .message .now) _ (c .before .recognise .ensures) (c .if1 .taken)
+returns c = read-refused toGateway (c .before .before .before .args .supported) (c .before .before .before .args .pcp)
+    (c .before .before .before .args .message .now) _ (c .before .recognise .ensures) (c .if1 .taken)
 
--- src/read.rt:98:9
 gateway-candidate-requires : tie.Need-gateway-candidate-requires
 gateway-candidate-requires c κs = search needs
 
--- src/read.rt:99:39
 version-place-requires : tie.Need-version-place-requires
 version-place-requires c κs = search needs
 
--- src/read.rt:99:9
 version-at-requires : tie.Need-version-at-requires
 version-at-requires c κs = search needs
 
--- src/read.rt:100:24
 gateway-parts-requires : tie.Need-gateway-parts-requires
 gateway-parts-requires c κs = search needs
 
--- src/read.rt:100:9
 data-len-requires : tie.Need-data-len-requires
 data-len-requires c κs = search needs
 
--- src/read.rt:101:8
 gateway-valid-requires : tie.Need-gateway-valid-requires
 gateway-valid-requires c κs = search needs
 
--- src/read.rt:101:40
 add-if2 : tie.Need-add-if2
 add-if2 c = search needs
 
--- src/read.rt:91:1
 returns-2 : tie.Need-returns-2
 returns-2 c =
-    read-found toGateway _ _ (c .before .before .before .before .before .before .before .before .before .before .args .message .now) _ (bytes (c .before)) (gateway-starts _ _ (bytes-drop 8 _ (bytes (c .before)))) (c .before .before .before .before .before .before .before .before .recognise .ensures) (c .before .before .before .before .before .before .before .if1 .left) _ _ _
+    read-found toGateway _ _ (c .before .before .before .before .before .before .before .before .before .before .args .message .now) _
+    (bytes (c .before)) (gateway-starts _ _ (bytes-drop 8 _ (bytes (c .before))))
+    (c .before .before .before .before .before .before .before .before .recognise .ensures)
+    (c .before .before .before .before .before .before .before .if1 .left) _ _ _
     (c .before .before .before .before .before .before .gateway-candidate .ensures) (valid (c .before)) (len (c .before)) (c .if2 .taken)
 
--- src/read.rt:91:1
 returns-3 : tie.Need-returns-3
 returns-3 c =
-    read-bad toGateway _ _ (c .before .before .before .before .before .before .before .before .before .before .args .message .now) _ (bytes (c .before)) (gateway-starts _ _ (bytes-drop 8 _ (bytes (c .before)))) (c .before .before .before .before .before .before .before .before .recognise .ensures) (c .before .before .before .before .before .before .before .if1 .left) _ _ _
+    read-bad toGateway _ _ (c .before .before .before .before .before .before .before .before .before .before .args .message .now) _
+    (bytes (c .before)) (gateway-starts _ _ (bytes-drop 8 _ (bytes (c .before))))
+    (c .before .before .before .before .before .before .before .before .recognise .ensures)
+    (c .before .before .before .before .before .before .before .if1 .left) _ _ _
     (c .before .before .before .before .before .before .gateway-candidate .ensures) (valid (c .before)) (len (c .before)) (c .if2 .left)
 
 pub read-to-gateway-spec : {M : Type 1} → statement M

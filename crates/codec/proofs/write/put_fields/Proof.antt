@@ -1,57 +1,81 @@
+-- `codec::write::put_fields` meets its contract: result, version, words and data one behind the other: each put is a patch where the last one
+-- ended. Assumes nothing.
 use mathlib.Core.List.{[], _∷_}
 use Rattle.codec.proofs.Writing.{fields-in}
 use lib.ListN.{length}
 use native.Mathlib.Omega.{arith}
 use mathlib.Core.Path.{_≡_}
-use Prim.Native.Nat.{_≤_}
 use borrow.Author.Needs.{needs}
 use Rattle.codec.proofs.write.put_fields.Statement.{statement}
 use Rattle.codec.proofs.write.put_fields.Tie as tie
-use Rattle.codec.proofs.write.put_fields.Reads as reads
-use Rattle.codec.proofs.write.put_fields.Lts as lts
-use Rattle.codec.proofs.write.put_first.Reads as put-first-reads
 
--- src/write.rt:39:14
 add-at : tie.Need-add-at
 add-at c = search needs
 
--- src/write.rt:40:23
 slice-aggregate-put-first : tie.Need-slice-aggregate-put-first
 slice-aggregate-put-first c = search needs
 
--- src/write.rt:40:5
 put-first-requires : tie.Need-put-first-requires
 put-first-requires c κs = search needs
 
--- src/write.rt:41:24
 slice-aggregate-put-first-2 : tie.Need-slice-aggregate-put-first-2
 slice-aggregate-put-first-2 c = search needs
 
--- src/write.rt:41:5
 put-first-requires-2 : tie.Need-put-first-requires-2
 put-first-requires-2 c κs = search needs
 
--- src/write.rt:42:20
 add-put-first : tie.Need-add-put-first
 add-put-first c = search needs
 
--- src/write.rt:42:44
 slice-aggregate-put-first-3 : tie.Need-slice-aggregate-put-first-3
 slice-aggregate-put-first-3 c = search needs
 
--- src/write.rt:42:5
 put-first-requires-3 : tie.Need-put-first-requires-3
-put-first-requires-3 c κs = let l : length (c .before .before .before .before .before .before .before .before .before .before .before .before .before .before .before .before .args .parts .words) ≡ 6 = search needs in (omega (arith, c .before .before .before .before .before .before .before .before .before .before .before .before .before .before .before .before .pre), omega (arith, c .before .before .before .before .before .before .before .before .before .before .before .before .before .before .before .before .pre))
+put-first-requires-3 c κs = let l : length (c .before .before .before .before .before .before .before .before .before .before .before .before .before
+    .before .before .before .args .parts .words) ≡ 6 = search
+    needs in (
+      omega (
+        arith,
+        c .before .before .before .before .before .before .before .before .before .before .before .before .before .before .before
+            .before .pre,
+      ),
+      omega (
+        arith,
+        c .before .before .before .before .before .before .before .before .before .before .before .before .before .before
+            .before .before .pre,
+      ),
+    )
 
--- src/write.rt:32:1
 same-length : tie.Need-same-length
 same-length c = search needs
 
--- src/write.rt:32:1
 returns : tie.Need-returns
 returns c =
-    let l : length (c .before .before .before .before .before .before .before .before .before .before .before .before .before .before .before .before .before .before .before .args .t3) ≡ 16 = search needs in
-    fields-in (c .before .before .before .before .before .before .before .before .before .before .before .before .before .before .before .before .before .before .before .args .parts .«result_len») (c .before .before .before .before .before .before .before .before .before .before .before .before .before .before .before .before .before .before .before .args .parts .«version_len») (c .before .before .before .before .before .before .before .before .before .before .before .before .before .before .before .before .before .before .before .args .parts .«words_len») (c .before .before .before .before .before .before .before .before .before .before .before .before .before .before .before .before .before .before .before .args .parts .result ∷ []) (c .before .before .before .before .before .before .before .before .before .before .before .before .before .before .before .before .before .before .before .args .t3) (c .before .before .before .before .before .before .before .before .before .before .before .before .before .before .before .before .before .before .before .args .parts .words) (c .before .before .before .before .before .before .before .before .before .before .before .before .before .before .before .before .before .before .before .args .out .now) _ _ _ (omega (arith, c .before .before .before .before .before .before .before .before .before .before .before .before .before .before .before .before .before .before .before .pre)) (c .before .before .before .before .before .before .before .before .before .before .before .before .before .before .before .before .before .before .before .pre .0 .result) (omega (arith, c .before .before .before .before .before .before .before .before .before .before .before .before .before .before .before .before .before .before .before .pre)) (c .before .before .before .before .before .before .before .before .before .before .before .before .before .put-first .ensures) (c .before .before .before .before .before .before .before .before .put-first2 .ensures) (c .before .before .put-first3 .ensures)
+    let l : length (c .before .before .before .before .before .before .before .before .before .before .before .before .before .before .before .before
+    .before .before .before .args .t3) ≡ 16 = search needs in
+    fields-in (c .before .before .before .before .before .before .before .before .before .before .before .before .before .before .before .before
+    .before .before .before .args .parts .«result_len») (c .before .before .before .before .before .before .before .before .before .before .before
+    .before .before .before .before .before .before .before .before .args .parts .«version_len»)
+    (c .before .before .before .before .before .before .before .before .before .before .before .before .before .before .before .before .before
+    .before .before .args .parts .«words_len») (c .before .before .before .before .before .before .before .before .before .before .before .before
+    .before .before .before .before .before .before .before .args .parts .result ∷ [])
+    (c .before .before .before .before .before .before .before .before .before .before .before .before .before .before .before .before .before
+    .before .before .args .t3) (c .before .before .before .before .before .before .before .before .before .before .before .before .before .before
+    .before .before .before .before .before .args .parts .words)
+    (c .before .before .before .before .before .before .before .before .before .before .before .before .before .before .before .before .before
+    .before .before .args .out .now) _ _ _ (omega (
+      arith,
+      c .before .before .before .before .before .before .before .before .before .before .before .before .before .before .before .before .before
+          .before .before .pre,
+    )) (c .before .before .before .before .before .before .before .before .before .before .before .before .before .before
+    .before .before .before .before .before .pre .0 .result)
+    (omega (
+      arith,
+      c .before .before .before .before .before .before .before .before .before .before .before .before .before .before .before
+          .before .before .before .before .pre,
+    )) (c .before .before .before .before .before .before .before .before .before .before .before .before
+    .before .put-first .ensures) (c .before .before .before .before .before .before .before .before .put-first2 .ensures)
+    (c .before .before .put-first3 .ensures)
 
 pub put-fields-spec : {M : Type 1} → statement M
 put-fields-spec =

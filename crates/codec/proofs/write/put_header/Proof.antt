@@ -1,33 +1,25 @@
+-- `codec::write::put_header` meets its contract: the eight header bytes at the front, with check 0000. Assumes nothing.
 use Rattle.basis.proofs.Lists.{patched-front}
 use mathlib.Core.Path.{_∙_}
 use borrow.Author.Needs.{needs}
 use Rattle.codec.proofs.write.put_header.Statement.{statement}
 use Rattle.codec.proofs.write.put_header.Tie as tie
-use Rattle.codec.proofs.write.put_header.Reads as reads
-use Rattle.codec.proofs.write.put_header.Lts as lts
-use Rattle.basis.proofs.put.Reads as put-reads
 
--- src/write.rt:19:49
 cast-t6 : tie.Need-cast-t6
 cast-t6 c = search needs
 
--- src/write.rt:19:68
 cast-t8 : tie.Need-cast-t8
 cast-t8 c = search needs
 
--- src/write.rt:20:24
 slice-aggregate-put : tie.Need-slice-aggregate-put
 slice-aggregate-put c = search needs
 
--- src/write.rt:20:5
 put-requires : tie.Need-put-requires
 put-requires c κs = search needs
 
--- src/write.rt:15:1
 same-length : tie.Need-same-length
 same-length c = search needs
 
--- src/write.rt:15:1
 returns : tie.Need-returns
 returns c = c .before .before .put .ensures ∙ patched-front _ (c .before .before .before .before .before .before .args .out .now)
 

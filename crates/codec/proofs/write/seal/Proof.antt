@@ -1,52 +1,41 @@
+-- `codec::write::seal` meets its contract: the check of the message with its field as 0000, put into that field. Assumes nothing.
 use Rattle.codec.proofs.Writing.{sealed-in}
 use lib.ListN.{length-set}
 use native.Mathlib.Omega.{arith}
 use borrow.Author.Needs.{needs}
 use Rattle.codec.proofs.write.seal.Statement.{statement}
 use Rattle.codec.proofs.write.seal.Tie as tie
-use Rattle.codec.proofs.write.seal.Reads as reads
-use Rattle.codec.proofs.write.seal.Lts as lts
-use Rattle.checksum.proofs.message_check.Reads as message-check-reads
 
--- src/write.rt:44:41
 sub-message-check : tie.Need-sub-message-check
 sub-message-check c = search needs
 
--- src/write.rt:44:41
 part-message-check-start : tie.Need-part-message-check-start
 part-message-check-start c = search needs
 
--- src/write.rt:44:41
 part-message-check-end : tie.Need-part-message-check-end
 part-message-check-end c = search needs
 
--- src/write.rt:44:9
 message-check-requires : tie.Need-message-check-requires
 message-check-requires c κs = search needs
 
--- src/write.rt:45:14
 cast-out : tie.Need-cast-out
 cast-out c = search needs
 
--- src/write.rt:45:5
 slice-write-out : tie.Need-slice-write-out
 slice-write-out c = search needs
 
--- src/write.rt:46:14
 cast-out-2 : tie.Need-cast-out-2
 cast-out-2 c = search needs
 
--- src/write.rt:46:5
 slice-write-out-2 : tie.Need-slice-write-out-2
 slice-write-out-2 c = simp length-set (omega arith)
 
--- src/write.rt:40:1
 same-length : tie.Need-same-length
 same-length c = search needs
 
--- src/write.rt:40:1
 returns : tie.Need-returns
-returns c = sealed-in (c .before .before .before .before .args .n) _ (c .before .before .before .before .args .out .now) (c .before .before .before .before .pre .0) (c .before .before .before .before .pre .1) (c .message-check .ensures)
+returns c = sealed-in (c .before .before .before .before .args .n) _ (c .before .before .before .before .args .out .now)
+    (c .before .before .before .before .pre .0) (c .before .before .before .before .pre .1) (c .message-check .ensures)
 
 pub seal-spec : {M : Type 1} → statement M
 seal-spec =

@@ -19,7 +19,8 @@ refused-requires : tie.Need-refused-requires
 refused-requires c κs = search needs
 
 returns : tie.Need-returns
-returns c = λ b. leaves 20 _ _ _ _ tt (c .before .before .match .keys2) (c .before .before .before .before .before .before .pre .1 .1) (c .before .refusal .ensures) (c .refused .ensures) _ _ _ _ b _
+returns c = λ b. leaves 20 _ _ _ _ tt (c .before .before .match .keys2) (c .before .before .before .before .before .before .pre .1 .1)
+    (c .before .refusal .ensures) (c .refused .ensures) _ _ _ _ b _
 
 announce-result-requires : tie.Need-announce-result-requires
 announce-result-requires c κs = search needs
@@ -38,7 +39,11 @@ begun-requires c κs = search needs
 
 answered-requires : tie.Need-answered-requires
 unfolding gatewayValid oneOf
-answered-requires c κs = (c .before .before .before .before .before .before .before .before .before .before .before .before .before .before .before .before .before .pre .0, refl)
+answered-requires c κs = (
+  c .before .before .before .before .before .before .before .before .before .before .before .before .before .before .before
+      .before .before .pre .0,
+  refl,
+)
 
 same-length : tie.Need-same-length
 same-length c = search needs
@@ -48,8 +53,17 @@ same-length-2 c = search needs
 
 returns-2 : tie.Need-returns-2
 returns-2 c =
-    let s = c .before .before .before .before .before .before .before .before .before .before .before .before .before .before .before .before .before .before .before .before in
-    λ b. afresh _ (s .args .image .now) (s .args .map .now) _ _ (s .args .reply .now) _ _ (c .before .before .before .before .before .before .before .before .before .before .before .before .announce-result .ensures) (c .before .before .before .before .before .before .before .before .before .before .before .resumes .ensures) _ _ _ _ (c .before .before .before .before .before .before .before .before .before .before .if1 .taken) (c .before .before .before .before .before .before .before .before .map-bytes .ensures) (c .before .before .before .before .before .before .before .clear .ensures) (c .before .before .before .before .begun .ensures) (c .before .before .answered .ensures _ _ _ refl) ∙ sym (leads-announce _ _ _ _ _ _ b _ _ _ _ (c .before .before .before .before .before .before .before .before .before .before .before .before .before .before .before .message .given .1))
+    let s = c .before .before .before .before .before .before .before .before .before .before .before .before .before .before .before .before .before
+    .before .before .before in
+    λ b. afresh _ (s .args .image .now) (s .args .map .now) _ _ (s .args .reply .now) _ _
+    (c .before .before .before .before .before .before .before .before .before .before .before .before .announce-result .ensures)
+    (c .before .before .before .before .before .before .before .before .before .before .before .resumes .ensures) _ _ _ _
+    (c .before .before .before .before .before .before .before .before .before .before .if1 .taken)
+    (c .before .before .before .before .before .before .before .before .map-bytes .ensures)
+    (c .before .before .before .before .before .before .before .clear .ensures) (c .before .before .before .before .begun .ensures)
+    (c .before .before .answered .ensures _ _ _ refl) ∙ sym
+    (leads-announce _ _ _ _ _ _ b _ _ _ _ (c .before .before .before .before .before .before .before .before .before .before .before .before
+    .before .before .before .message .given .1))
 
 answered-requires-2 : tie.Need-answered-requires-2
 answered-requires-2 c κs =
@@ -63,7 +77,10 @@ same-length-4 : tie.Need-same-length-4
 same-length-4 c = search needs
 
 returns-3 : tie.Need-returns-3
-returns-3 c = λ b. c .before .before .answered2 .ensures _ _ _ refl ∙ unchanged _ _ _ _ _ _ _ _ (c .before .before .before .before .before .before .announce-result .ensures) (c .before .before .before .before .before .resumes .ensures) (c .before .before .before .before .if1 .left) ∙ sym (leads-announce _ _ _ _ _ _ b _ _ _ _ (c .before .before .before .before .before .before .before .before .before .message .given .1))
+returns-3 c = λ b. c .before .before .answered2 .ensures _ _ _ refl
+    ∙ unchanged _ _ _ _ _ _ _ _ (c .before .before .before .before .before .before .announce-result .ensures)
+    (c .before .before .before .before .before .resumes .ensures) (c .before .before .before .before .if1 .left)
+    ∙ sym (leads-announce _ _ _ _ _ _ b _ _ _ _ (c .before .before .before .before .before .before .before .before .before .message .given .1))
 
 pub on-announce-spec : {M : Type 1} → statement M
 on-announce-spec =

@@ -17,16 +17,28 @@ version-at-requires c κs = search needs
 
 on-announce-requires : tie.Need-on-announce-requires
 on-announce-requires c κs =
-    let s = c .before .before .before .before .before .before .before .before .before .before in
-    (s .pre .0, (s .pre .1 .0, awaits _ _ 20 (s .args .reading) (c .before .before .before .before .before .byte-at .ensures) (c .before .before .before .before .match .keys2) (s .pre .1 .1 .1 .1)))
+    let s = c .before .before .before .before .before .before .before .before .before .before in (
+      s .pre .0,
+      (
+        s .pre .1 .0,
+        awaits _ _ 20 (s .args .reading) (c .before .before .before .before .before .byte-at .ensures)
+            (c .before .before .before .before .match .keys2) (s .pre .1 .1 .1 .1),
+      ),
+    )
 
 fragment-data-requires : tie.Need-fragment-data-requires
 fragment-data-requires c κs = search needs
 
 on-fragment-requires : tie.Need-on-fragment-requires
 on-fragment-requires c κs =
-    let s = c .before .before .before .before .before .before .before .before .before in
-    (s .pre .1 .1 .0, (s .pre .1 .1 .1 .0, awaits _ _ 21 (s .args .reading) (c .before .before .before .before .byte-at .ensures) (c .before .before .before .match .keys3) (s .pre .1 .1 .1 .1)))
+    let s = c .before .before .before .before .before .before .before .before .before in (
+      s .pre .1 .1 .0,
+      (
+        s .pre .1 .1 .1 .0,
+        awaits _ _ 21 (s .args .reading) (c .before .before .before .before .byte-at .ensures)
+            (c .before .before .before .match .keys3) (s .pre .1 .1 .1 .1),
+      ),
+    )
 
 on-download-reply-requires : tie.Need-on-download-reply-requires
 on-download-reply-requires c κs =
@@ -41,7 +53,8 @@ on-execute-requires c κs =
 on-result-reply-requires : tie.Need-on-result-reply-requires
 on-result-reply-requires c κs =
     let s = c .before .before .before .before .before .before in
-    awaits-last _ _ (s .args .reading) (c .before .byte-at .ensures) (c .match .rest .0 .0 .0 .0 .1) (c .match .rest .0 .0 .0 .1) (c .match .rest .0 .0 .1) (c .match .rest .0 .1) (c .match .rest .1) (s .pre .1 .1 .1 .1)
+    awaits-last _ _ (s .args .reading) (c .before .byte-at .ensures) (c .match .rest .0 .0 .0 .0 .1) (c .match .rest .0 .0 .0 .1)
+    (c .match .rest .0 .0 .1) (c .match .rest .0 .1) (c .match .rest .1) (s .pre .1 .1 .1 .1)
 
 same-length : tie.Need-same-length
 same-length c = search needs
@@ -59,7 +72,8 @@ same-length-4 : tie.Need-same-length-4
 same-length-4 c = search needs
 
 returns-2 : tie.Need-returns-2
-returns-2 c = rw (← c .before .before .before .before .before .before .before .before .version-at .ensures) (c .before .before .before .before .on-announce .ensures _)
+returns-2 c = rw (← c .before .before .before .before .before .before .before .before .version-at .ensures)
+    (c .before .before .before .before .on-announce .ensures _)
 
 same-length-5 : tie.Need-same-length-5
 same-length-5 c = search needs
@@ -68,7 +82,8 @@ same-length-6 : tie.Need-same-length-6
 same-length-6 c = search needs
 
 returns-3 : tie.Need-returns-3
-returns-3 c = rw (← c .before .before .before .before .before .before .before .fragment-data .ensures) (c .before .before .before .before .on-fragment .ensures _ _ _)
+returns-3 c = rw (← c .before .before .before .before .before .before .before .fragment-data .ensures)
+    (c .before .before .before .before .on-fragment .ensures _ _ _)
 
 returns-4 : tie.Need-returns-4
 returns-4 c = c .on-download-reply .ensures _ _ _ _ _ _

@@ -19,13 +19,15 @@ refused-requires c κs = search needs
 returns : tie.Need-returns
 returns c =
     let s = c .before .before .before .before .before .before in
-    λ p v k. leaves 21 _ _ _ _ tt (c .before .before .match .keys2) (s .pre .1 .1) (c .before .refusal .ensures) (c .refused .ensures) _ _ p v (s .args .content .now) k
+    λ p v k. leaves 21 _ _ _ _ tt (c .before .before .match .keys2) (s .pre .1 .1) (c .before .refusal .ensures) (c .refused .ensures) _ _ p v
+    (s .args .content .now) k
 
 refused-requires-2 : tie.Need-refused-requires-2
 refused-requires-2 c κs = search needs
 
 returns-2 : tie.Need-returns-2
-returns-2 c = λ p v k. c .refused2 .ensures _ _ p ∙ sym (leads-fragment _ _ _ p k v _ _ _ _ (c .before .before .before .before .message .given .1) ∙ not-loading _ _ _ p _ _ _ (c .before .if1 .taken))
+returns-2 c = λ p v k. c .refused2 .ensures _ _ p ∙ sym (leads-fragment _ _ _ p k v _ _ _ _ (c .before .before .before .before .message .given .1)
+    ∙ not-loading _ _ _ p _ _ _ (c .before .if1 .taken))
 
 in-phase-requires : tie.Need-in-phase-requires
 in-phase-requires c κs = search needs
@@ -34,13 +36,17 @@ moved-requires : tie.Need-moved-requires
 moved-requires c κs = search needs
 
 returns-3 : tie.Need-returns-3
-returns-3 c = λ p v k. c .moved .ensures _ _ p ∙ rw (c .before .in-phase .ensures) (sym (leads-fragment _ _ _ p k v _ _ _ _ (c .before .before .before .before .before .before .message .given .1) ∙ stopped _ _ _ p _ _ _ (c .before .before .before .if1 .left) (c .before .before .if2 .taken)))
+returns-3 c = λ p v k. c .moved .ensures _ _ p ∙ rw (c .before .in-phase .ensures)
+    (sym (leads-fragment _ _ _ p k v _ _ _ _ (c .before .before .before .before .before .before .message .given .1)
+    ∙ stopped _ _ _ p _ _ _ (c .before .before .before .if1 .left) (c .before .before .if2 .taken)))
 
 moved-requires-2 : tie.Need-moved-requires-2
 moved-requires-2 c κs = search needs
 
 returns-4 : tie.Need-returns-4
-returns-4 c = λ p v k. c .moved2 .ensures _ _ p ∙ sym (leads-fragment _ _ _ p k v _ _ _ _ (c .before .before .before .before .before .before .message .given .1) ∙ unknown _ _ _ p _ _ _ (c .before .before .before .if1 .left) (c .before .before .if2 .left) (c .before .if3 .taken))
+returns-4 c = λ p v k. c .moved2 .ensures _ _ p ∙ sym (leads-fragment _ _ _ p k v _ _ _ _
+    (c .before .before .before .before .before .before .message .given .1)
+    ∙ unknown _ _ _ p _ _ _ (c .before .before .before .if1 .left) (c .before .before .if2 .left) (c .before .if3 .taken))
 
 fragment-number-requires : tie.Need-fragment-number-requires
 fragment-number-requires c κs = search needs
@@ -52,12 +58,18 @@ same-length : tie.Need-same-length
 same-length c = search needs
 
 returns-5 : tie.Need-returns-5
-returns-5 c = λ p v k. c .refused3 .ensures _ _ p ∙ sym (leads-fragment _ _ _ p k v _ _ _ _ (c .before .before .before .before .before .before .before .before .before .before .message .given .1) ∙ refused-first _ _ _ p _ _ (c .before .before .before .before .before .before .before .before .before .before .before .before .before .before .before .args .content .now) (c .before .before .before .before .before .before .before .if1 .left) (c .before .before .before .before .before .before .if2 .left) (c .before .before .before .before .before .if3 .left) _ (c .before .before .fragment-number .ensures) (c .before .if4 .taken))
+returns-5 c = λ p v k. c .refused3 .ensures _ _ p ∙ sym (leads-fragment _ _ _ p k v _ _ _ _
+    (c .before .before .before .before .before .before .before .before .before .before .message .given .1)
+    ∙ refused-first _ _ _ p _ _ (c .before .before .before .before .before .before .before .before .before .before .before .before .before .before
+    .before .args .content .now) (c .before .before .before .before .before .before .before .if1 .left)
+    (c .before .before .before .before .before .before .if2 .left) (c .before .before .before .before .before .if3 .left) _
+    (c .before .before .fragment-number .ensures) (c .before .if4 .taken))
 
 store-requires : tie.Need-store-requires
 store-requires c κs =
     let s = c .before .before .before .before .before .before .before .before .before .before .before .before .before .before .before .before in
-    let (below, long, _) = fragment-passed _ _ _ (s .args .map .now) (sym (c .before .before .before .fragment-number .ensures) ∙ c .before .before .if4 .left) in
+    let (below, long, _) = fragment-passed _ _ _ (s .args .map .now)
+    (sym (c .before .before .before .fragment-number .ensures) ∙ c .before .before .if4 .left) in
     (s .pre .0, (c .before .before .before .before .before .before .before .before .if1 .left, (s .pre .1 .0, (below, long))))
 
 same-length-2 : tie.Need-same-length-2
@@ -67,7 +79,15 @@ same-length-3 : tie.Need-same-length-3
 same-length-3 c = search needs
 
 returns-6 : tie.Need-returns-6
-returns-6 c = λ p v k. c .before .before .before .before .store .ensures p ∙ sym (leads-fragment _ _ _ p k v _ _ _ _ (c .before .before .before .before .before .before .before .before .before .before .before .before .before .before .before .before .message .given .1) ∙ stores _ _ _ p _ _ (c .before .before .before .before .before .before .before .before .before .before .before .before .before .before .before .before .before .before .before .before .before .args .content .now) (c .before .before .before .before .before .before .before .before .before .before .before .before .before .if1 .left) (c .before .before .before .before .before .before .before .before .before .before .before .before .if2 .left) (c .before .before .before .before .before .before .before .before .before .before .before .if3 .left) _ (c .before .before .before .before .before .before .before .before .fragment-number .ensures) (c .before .before .before .before .before .before .before .if4 .left))
+returns-6 c = λ p v k. c .before .before .before .before .store .ensures p
+    ∙ sym (leads-fragment _ _ _ p k v _ _ _ _ (c .before .before .before .before .before .before .before .before .before .before .before .before
+    .before .before .before .before .message .given .1) ∙ stores _ _ _ p _ _
+    (c .before .before .before .before .before .before .before .before .before .before .before .before .before .before .before .before .before .before
+    .before .before .before .args .content .now) (c .before .before .before .before .before .before .before .before .before .before .before .before
+    .before .if1 .left) (c .before .before .before .before .before .before .before .before .before .before .before .before .if2 .left)
+    (c .before .before .before .before .before .before .before .before .before .before .before .if3 .left) _
+    (c .before .before .before .before .before .before .before .before .fragment-number .ensures)
+    (c .before .before .before .before .before .before .before .if4 .left))
 
 pub on-fragment-spec : {M : Type 1} → statement M
 on-fragment-spec =

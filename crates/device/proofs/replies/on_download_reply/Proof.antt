@@ -31,7 +31,9 @@ moved-requires c κs = search needs
 
 returns-2 : tie.Need-returns-2
 unfolding onDownloadReply
-returns-2 c = λ i m p v b k. c .moved .ensures i m p ∙ rw (c .before .in-phase .ensures, c .before .before .pick .ensures) (sym (leads-download _ i m p k v b _ _ (c .before .before .before .before .before .before .message .given .1) ∙ pick-yes _ _ _ (eq-eqb _ _ (c .before .before .before .if1 .taken))))
+returns-2 c = λ i m p v b k. c .moved .ensures i m p ∙ rw (c .before .in-phase .ensures, c .before .before .pick .ensures)
+    (sym (leads-download _ i m p k v b _ _ (c .before .before .before .before .before .before .message .given .1)
+    ∙ pick-yes _ _ _ (eq-eqb _ _ (c .before .before .before .if1 .taken))))
 
 in-phase-requires-2 : tie.Need-in-phase-requires-2
 in-phase-requires-2 c κs = search needs
@@ -41,14 +43,18 @@ moved-requires-2 c κs = search needs
 
 returns-3 : tie.Need-returns-3
 unfolding onDownloadReply
-returns-3 c = λ i m p v b k. c .moved2 .ensures i m p ∙ rw (c .before .in-phase2 .ensures) (sym (leads-download _ i m p k v b _ _ (c .before .before .before .before .before .before .before .message .given .1) ∙ pick-no _ _ _ (ne-eqb _ _ (c .before .before .before .before .if1 .left)) ∙ pick-yes _ _ _ (eq-eqb _ _ (c .before .before .if2 .taken))))
+returns-3 c = λ i m p v b k. c .moved2 .ensures i m p ∙ rw (c .before .in-phase2 .ensures)
+    (sym (leads-download _ i m p k v b _ _ (c .before .before .before .before .before .before .before .message .given .1)
+    ∙ pick-no _ _ _ (ne-eqb _ _ (c .before .before .before .before .if1 .left)) ∙ pick-yes _ _ _ (eq-eqb _ _ (c .before .before .if2 .taken))))
 
 refused-requires-2 : tie.Need-refused-requires-2
 refused-requires-2 c κs = search needs
 
 returns-4 : tie.Need-returns-4
 unfolding onDownloadReply
-returns-4 c = λ i m p v b k. c .refused2 .ensures i m p ∙ sym (leads-download _ i m p k v b _ _ (c .before .before .before .before .before .before .message .given .1) ∙ pick-no _ _ _ (ne-eqb _ _ (c .before .before .before .if1 .left)) ∙ pick-no _ _ _ (ne-eqb _ _ (c .before .if2 .left)))
+returns-4 c = λ i m p v b k. c .refused2 .ensures i m p ∙ sym
+    (leads-download _ i m p k v b _ _ (c .before .before .before .before .before .before .message .given .1)
+    ∙ pick-no _ _ _ (ne-eqb _ _ (c .before .before .before .if1 .left)) ∙ pick-no _ _ _ (ne-eqb _ _ (c .before .if2 .left)))
 
 pub on-download-reply-spec : {M : Type 1} → statement M
 on-download-reply-spec =

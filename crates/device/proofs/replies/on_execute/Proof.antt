@@ -18,7 +18,8 @@ refused-requires : tie.Need-refused-requires
 refused-requires c κs = search needs
 
 returns : tie.Need-returns
-returns c = λ i m v b. leaves 23 _ _ _ _ tt (c .before .before .match .keys2) (c .before .before .before .before .pre .1) (c .before .refusal .ensures) (c .refused .ensures) i m _ v b _
+returns c = λ i m v b. leaves 23 _ _ _ _ tt (c .before .before .match .keys2) (c .before .before .before .before .pre .1)
+    (c .before .refusal .ensures) (c .refused .ensures) i m _ v b _
 
 execute-result-requires : tie.Need-execute-result-requires
 execute-result-requires c κs = search needs
@@ -30,14 +31,24 @@ in-phase-requires : tie.Need-in-phase-requires
 in-phase-requires c κs = search needs
 
 answered-requires : tie.Need-answered-requires
-answered-requires c κs = (c .before .before .before .before .before .before .before .before .pre .0, rw (c .before .before .before .before .execute-result .ensures) (execute-allowed _ _))
+answered-requires c κs = (
+  c .before .before .before .before .before .before .before .before .pre .0,
+  rw (c .before .before .before .before .execute-result .ensures) (execute-allowed _ _),
+)
 
 same-length : tie.Need-same-length
 same-length c = search needs
 
 returns-2 : tie.Need-returns-2
 unfolding onExecute
-returns-2 c = λ i m v b. c .before .before .answered .ensures i m _ refl ∙ rw (c .before .before .before .before .in-phase .ensures, c .before .before .before .before .before .before .pick .ensures, phase-chosen, c .before .before .before .before .before .before .before .execute-result .ensures) (sym (leads-execute _ i m _ _ v b _ (c .before .before .before .before .before .before .before .before .enum-told .given .1)))
+returns-2 c = λ i m v b. c .before .before .answered .ensures i m _ refl
+    ∙ rw (
+      c .before .before .before .before .in-phase .ensures,
+      c .before .before .before .before .before .before .pick .ensures,
+      phase-chosen,
+      c .before .before .before .before .before .before .before .execute-result .ensures,
+    )
+    (sym (leads-execute _ i m _ _ v b _ (c .before .before .before .before .before .before .before .before .enum-told .given .1)))
 
 pub on-execute-spec : {M : Type 1} → statement M
 on-execute-spec =

@@ -18,7 +18,8 @@ refused-requires : tie.Need-refused-requires
 refused-requires c κs = search needs
 
 returns : tie.Need-returns
-returns c = λ i m v b k. leaves 19 _ _ _ _ tt (c .before .before .match .keys2) (c .before .before .before .before .pre .1 .1) (c .before .refusal .ensures) (c .refused .ensures) i m _ v b k
+returns c = λ i m v b k. leaves 19 _ _ _ _ tt (c .before .before .match .keys2) (c .before .before .before .before .pre .1 .1)
+    (c .before .refusal .ensures) (c .refused .ensures) i m _ v b k
 
 answered-requires : tie.Need-answered-requires
 answered-requires c κs =
@@ -30,7 +31,8 @@ same-length c = search needs
 
 returns-2 : tie.Need-returns-2
 unfolding onQuery
-returns-2 c = λ i m v b k. c .before .before .answered .ensures i m _ refl ∙ sym (leads-query _ i m _ k v b _ (c .before .before .before .before .before .enum-told .given .1))
+returns-2 c = λ i m v b k. c .before .before .answered .ensures i m _ refl
+    ∙ sym (leads-query _ i m _ k v b _ (c .before .before .before .before .before .enum-told .given .1))
 
 pub on-query-spec : {M : Type 1} → statement M
 on-query-spec =

@@ -31,11 +31,14 @@ refused-requires-2 c κs = search needs
 
 returns-2 : tie.Need-returns-2
 unfolding onResultReply
-returns-2 c = λ i m p v b k. c .moved .ensures i m p ∙ rw (c .before .in-phase .ensures) (sym (leads-result _ i m p k v b _ _ (c .before .before .before .before .enum-told .given .1) ∙ pick-yes _ _ _ (eq-eqb _ _ (c .before .before .if1 .taken))))
+returns-2 c = λ i m p v b k. c .moved .ensures i m p ∙ rw (c .before .in-phase .ensures)
+    (sym (leads-result _ i m p k v b _ _ (c .before .before .before .before .enum-told .given .1)
+    ∙ pick-yes _ _ _ (eq-eqb _ _ (c .before .before .if1 .taken))))
 
 returns-3 : tie.Need-returns-3
 unfolding onResultReply
-returns-3 c = λ i m p v b k. c .refused2 .ensures i m p ∙ sym (leads-result _ i m p k v b _ _ (c .before .before .before .enum-told .given .1) ∙ pick-no _ _ _ (ne-eqb _ _ (c .before .if1 .left)))
+returns-3 c = λ i m p v b k. c .refused2 .ensures i m p ∙ sym
+    (leads-result _ i m p k v b _ _ (c .before .before .before .enum-told .given .1) ∙ pick-no _ _ _ (ne-eqb _ _ (c .before .if1 .left)))
 
 pub on-result-reply-spec : {M : Type 1} → statement M
 on-result-reply-spec =

@@ -2,7 +2,6 @@
 use borrow.Author.Needs.{needs}
 use mathlib.Core.List.{_∷_, []}
 use types.Run.{miss}
-use Rattle.message.specs.declared.ToDevice
 use Rattle.device.proofs.replies.refusal.Statement.{statement}
 use Rattle.device.proofs.replies.refusal.Tie as tie
 

@@ -20,7 +20,8 @@ same-length c = search needs
 returns-2 : tie.Need-returns-2
 returns-2 c =
     let s = c .before .before .before .before .before .before in
-    c .before .before .write-to-gateway .ensures ∙ message-said (s .args .version) (s .args .reply .now) (s .args .message) (s .pre .0) (s .pre .1) (c .before .before .before .before .match .keys2)
+    c .before .before .write-to-gateway .ensures ∙ message-said (s .args .version) (s .args .reply .now) (s .args .message) (s .pre .0) (s .pre .1)
+    (c .before .before .before .before .match .keys2)
 
 pub say-spec : {M : Type 1} → statement M
 say-spec =

@@ -21,7 +21,13 @@ unless-requires-3 c κs = search needs
 
 returns : tie.Need-returns
 unfolding refusal
-returns c = rw (c .unless3 .ensures, c .before .unless2 .ensures, c .before .before .unless .ensures, c .before .before .before .install-code .ensures, c .before .before .before .before .before .record-ok .ensures)
+returns c = rw (
+  c .unless3 .ensures,
+  c .before .unless2 .ensures,
+  c .before .before .unless .ensures,
+  c .before .before .before .install-code .ensures,
+  c .before .before .before .before .before .record-ok .ensures,
+)
 
 pub finishing-spec : {M : Type 1} → statement M
 finishing-spec =

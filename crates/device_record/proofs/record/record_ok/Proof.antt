@@ -19,7 +19,13 @@ download-ok-requires c κs = search needs
 
 returns : tie.Need-returns
 unfolding recordOk
-returns c = rw (c .download-ok .ensures, c .before .good-version2 .ensures, c .before .before .good-version .ensures, c .before .before .before .install-code .ensures, pick-or)
+returns c = rw (
+  c .download-ok .ensures,
+  c .before .good-version2 .ensures,
+  c .before .before .good-version .ensures,
+  c .before .before .before .install-code .ensures,
+  pick-or,
+)
 
 pub record-ok-spec : {M : Type 1} → statement M
 record-ok-spec =

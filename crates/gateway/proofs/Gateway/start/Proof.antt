@@ -11,7 +11,8 @@ begun-requires : tie.Need-begun-requires
 begun-requires c κs = search needs
 
 returns : tie.Need-returns
-returns c = start-refused _ _ (c .before .before .before .before .args .content .now) _ _ _ (c .before .before .start-refusal .ensures) (c .before .if1 .taken) (c .begun .ensures)
+returns c = start-refused _ _ (c .before .before .before .before .args .content .now) _ _ _ (c .before .before .start-refusal .ensures)
+    (c .before .if1 .taken) (c .begun .ensures)
 
 code-of-requires : tie.Need-code-of-requires
 code-of-requires c κs = search needs
@@ -20,7 +21,8 @@ begun-requires-2 : tie.Need-begun-requires-2
 begun-requires-2 c κs = search needs
 
 returns-2 : tie.Need-returns-2
-returns-2 c = start-made _ _ (c .before .before .before .before .before .args .content .now) _ _ _ (c .before .before .before .start-refusal .ensures) _ (c .before .before .if1 .left) (c .before .code-of .ensures) (c .begun2 .ensures)
+returns-2 c = start-made _ _ (c .before .before .before .before .before .args .content .now) _ _ _ (c .before .before .before .start-refusal .ensures)
+    _ (c .before .before .if1 .left) (c .before .code-of .ensures) (c .begun2 .ensures)
 
 pub start-spec : {M : Type 1} → statement M
 start-spec =

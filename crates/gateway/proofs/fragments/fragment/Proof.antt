@@ -32,8 +32,10 @@ returns : tie.Need-returns
 unfolding placeOf
 returns c =
     record {
-      place = ap (λ (n : ℕ). (c .before .before .before .before .args .content .ptr .0, n + c .before .before .before .before .args .content .ptr .1)) (c .before .before .least .ensures);
-      bytes = cut (c .before .before .before .before .args .content .now) (c .before .before .before .before .args .size) (c .before .before .before .before .args .index) _ _ (c .before .before .least .ensures) (c .before .least2 .ensures);
+      place = ap (λ (n : ℕ). (c .before .before .before .before .args .content .ptr .0, n + c .before .before .before .before .args .content .ptr .1))
+          (c .before .before .least .ensures);
+      bytes = cut (c .before .before .before .before .args .content .now) (c .before .before .before .before .args .size)
+          (c .before .before .before .before .args .index) _ _ (c .before .before .least .ensures) (c .before .least2 .ensures);
     }
 
 pub fragment-spec : {M : Type 1} → statement M

@@ -11,10 +11,12 @@ same-version-requires : tie.Need-same-version-requires
 same-version-requires c κs = search needs
 
 returns : tie.Need-returns
-returns c = sym (pick-yes _ _ _ (ap (λ (t : Bool). eqb (c .before .before .before .args .result) 0x00 && t) (sym (c .before .same-version .ensures)) ∙ c .if1 .taken))
+returns c = sym (pick-yes _ _ _ (ap (λ (t : Bool). eqb (c .before .before .before .args .result) 0x00 && t) (sym (c .before .same-version .ensures))
+    ∙ c .if1 .taken))
 
 returns-2 : tie.Need-returns-2
-returns-2 c = sym (pick-no _ _ _ (ap (λ (t : Bool). eqb (c .before .before .before .args .result) 0x00 && t) (sym (c .before .same-version .ensures)) ∙ c .if1 .left))
+returns-2 c = sym (pick-no _ _ _ (ap (λ (t : Bool). eqb (c .before .before .before .args .result) 0x00 && t) (sym (c .before .same-version .ensures))
+    ∙ c .if1 .left))
 
 pub install-ending-spec : {M : Type 1} → statement M
 install-ending-spec = tie.close (tie.spec same-version-requires returns returns-2)

@@ -15,13 +15,16 @@ refused-requires : tie.Need-refused-requires
 refused-requires c κs = search needs
 
 returns : tie.Need-returns
-returns c version content reply = c .refused .ensures content reply ∙ leaves _ content reply (c .before .before .before .args .message) 2 tt version _ (c .before .before .match .keys2) (c .before .before .before .pre) (c .before .number-of .ensures)
+returns c version content reply = c .refused .ensures content reply
+    ∙ leaves _ content reply (c .before .before .before .args .message) 2 tt version _ (c .before .before .match .keys2)
+    (c .before .before .before .pre) (c .before .number-of .ensures)
 
 refused-requires-2 : tie.Need-refused-requires-2
 refused-requires-2 c κs = search needs
 
 returns-2 : tie.Need-returns-2
-returns-2 c version content reply = c .refused2 .ensures content reply ∙ announce-elsewhere _ content reply _ _ version (c .before .before .before .message .given .1) (c .before .if1 .taken)
+returns-2 c version content reply = c .refused2 .ensures content reply
+    ∙ announce-elsewhere _ content reply _ _ version (c .before .before .before .message .given .1) (c .before .if1 .taken)
 
 in-phase-requires : tie.Need-in-phase-requires
 in-phase-requires c κs = search needs
@@ -38,7 +41,9 @@ moved-requires c κs = search needs
 returns-3 : tie.Need-returns-3
 returns-3 c version content reply =
     c .moved .ensures content reply
-    ∙ announce-here _ content reply _ _ version _ _ _ (c .before .before .before .before .before .before .message .given .1) (c .before .before .before .before .if1 .left) (c .before .by-result .ensures) (c .before .before .before .in-phase .ensures) (c .before .before .ended-with .ensures)
+    ∙ announce-here _ content reply _ _ version _ _ _ (c .before .before .before .before .before .before .message .given .1)
+    (c .before .before .before .before .if1 .left) (c .before .by-result .ensures) (c .before .before .before .in-phase .ensures)
+    (c .before .before .ended-with .ensures)
 
 pub on-announce-reply-spec : {M : Type 1} → statement M
 on-announce-reply-spec =

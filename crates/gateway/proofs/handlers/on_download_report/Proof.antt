@@ -17,7 +17,8 @@ refused-requires : tie.Need-refused-requires
 refused-requires c κs = search needs
 
 returns : tie.Need-returns
-returns c version content = c .refused .ensures content _ ∙ leaves _ content _ (c .before .before .before .before .args .message) 4 tt version _ (c .before .before .match .keys2) (c .before .before .before .before .pre .0) (c .before .number-of .ensures)
+returns c version content = c .refused .ensures content _ ∙ leaves _ content _ (c .before .before .before .before .args .message) 4 tt version _
+    (c .before .before .match .keys2) (c .before .before .before .before .pre .0) (c .before .number-of .ensures)
 
 in-phase-requires : tie.Need-in-phase-requires
 in-phase-requires c κs = search needs
@@ -38,7 +39,9 @@ same-length c = search needs
 returns-2 : tie.Need-returns-2
 returns-2 c version content =
     c .before .before .replied-bare .ensures
-    ∙ download-served _ content _ _ _ version _ _ _ (c .before .before .before .before .before .before .before .before .before .message .given .1) (c .before .before .before .before .before .before .before .if1 .taken) (c .before .before .before .before .by-result .ensures) (c .before .before .before .before .before .before .in-phase .ensures) (c .before .before .before .before .before .ended-with .ensures)
+    ∙ download-served _ content _ _ _ version _ _ _ (c .before .before .before .before .before .before .before .before .before .message .given .1)
+    (c .before .before .before .before .before .before .before .if1 .taken) (c .before .before .before .before .by-result .ensures)
+    (c .before .before .before .before .before .before .in-phase .ensures) (c .before .before .before .before .before .ended-with .ensures)
 
 replied-bare-requires-2 : tie.Need-replied-bare-requires-2
 unfolding deviceValid oneOf
@@ -48,7 +51,9 @@ same-length-2 : tie.Need-same-length-2
 same-length-2 c = search needs
 
 returns-3 : tie.Need-returns-3
-returns-3 c version content = c .before .before .replied-bare2 .ensures ∙ download-running _ content _ _ _ version (c .before .before .before .before .before .before .before .message .given .1) (c .before .before .before .before .before .if1 .left) (c .before .before .before .before .if2 .taken)
+returns-3 c version content = c .before .before .replied-bare2 .ensures
+    ∙ download-running _ content _ _ _ version (c .before .before .before .before .before .before .before .message .given .1)
+    (c .before .before .before .before .before .if1 .left) (c .before .before .before .before .if2 .taken)
 
 replied-bare-requires-3 : tie.Need-replied-bare-requires-3
 unfolding deviceValid oneOf
@@ -58,7 +63,9 @@ same-length-3 : tie.Need-same-length-3
 same-length-3 c = search needs
 
 returns-4 : tie.Need-returns-4
-returns-4 c version content = c .before .before .replied-bare3 .ensures ∙ download-elsewhere _ content _ _ _ version (c .before .before .before .before .before .before .before .message .given .1) (c .before .before .before .before .before .if1 .left) (c .before .before .before .before .if2 .left)
+returns-4 c version content = c .before .before .replied-bare3 .ensures
+    ∙ download-elsewhere _ content _ _ _ version (c .before .before .before .before .before .before .before .message .given .1)
+    (c .before .before .before .before .before .if1 .left) (c .before .before .before .before .if2 .left)
 
 pub on-download-report-spec : {M : Type 1} → statement M
 on-download-report-spec =

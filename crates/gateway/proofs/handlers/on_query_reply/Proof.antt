@@ -15,13 +15,15 @@ refused-requires : tie.Need-refused-requires
 refused-requires c κs = search needs
 
 returns : tie.Need-returns
-returns c content reply = c .refused .ensures content reply ∙ leaves _ content reply (c .before .before .before .args .message) 1 tt _ _ (c .before .before .match .keys2) (c .before .before .before .pre) (c .before .number-of .ensures)
+returns c content reply = c .refused .ensures content reply ∙ leaves _ content reply (c .before .before .before .args .message) 1 tt _ _
+    (c .before .before .match .keys2) (c .before .before .before .pre) (c .before .number-of .ensures)
 
 refused-requires-2 : tie.Need-refused-requires-2
 refused-requires-2 c κs = search needs
 
 returns-2 : tie.Need-returns-2
-returns-2 c content reply = c .refused2 .ensures content reply ∙ query-elsewhere _ content reply _ _ _ (c .before .before .before .message .given .1) (c .before .if1 .taken)
+returns-2 c content reply = c .refused2 .ensures content reply
+    ∙ query-elsewhere _ content reply _ _ _ (c .before .before .before .message .given .1) (c .before .if1 .taken)
 
 asked-requires : tie.Need-asked-requires
 asked-requires c κs = search needs

@@ -17,7 +17,8 @@ refused-requires : tie.Need-refused-requires
 refused-requires c κs = search needs
 
 returns : tie.Need-returns
-returns c content = c .refused .ensures content _ ∙ leaves _ content _ (c .before .before .before .before .args .message) 6 tt _ _ (c .before .before .match .keys2) (c .before .before .before .before .pre .0) (c .before .number-of .ensures)
+returns c content = c .refused .ensures content _ ∙ leaves _ content _ (c .before .before .before .before .args .message) 6 tt _ _
+    (c .before .before .match .keys2) (c .before .before .before .before .pre .0) (c .before .number-of .ensures)
 
 replied-bare-requires : tie.Need-replied-bare-requires
 unfolding deviceValid oneOf
@@ -27,7 +28,8 @@ same-length : tie.Need-same-length
 same-length c = search needs
 
 returns-2 : tie.Need-returns-2
-returns-2 c content = c .before .before .replied-bare .ensures ∙ result-elsewhere _ content _ _ _ _ (c .before .before .before .before .before .before .message .given .1) (c .before .before .before .before .if1 .taken)
+returns-2 c content = c .before .before .replied-bare .ensures
+    ∙ result-elsewhere _ content _ _ _ _ (c .before .before .before .before .before .before .message .given .1) (c .before .before .before .before .if1 .taken)
 
 install-ending-requires : tie.Need-install-ending-requires
 install-ending-requires c κs = search needs
@@ -43,7 +45,10 @@ same-length-2 : tie.Need-same-length-2
 same-length-2 c = search needs
 
 returns-3 : tie.Need-returns-3
-returns-3 c content = c .before .before .replied-bare2 .ensures ∙ result-here _ content _ _ _ _ _ _ (c .before .before .before .before .before .before .before .before .message .given .1) (c .before .before .before .before .before .before .if1 .left) (c .before .before .before .before .before .install-ending .ensures) (c .before .before .before .before .ended-with .ensures)
+returns-3 c content = c .before .before .replied-bare2 .ensures
+    ∙ result-here _ content _ _ _ _ _ _ (c .before .before .before .before .before .before .before .before .message .given .1)
+    (c .before .before .before .before .before .before .if1 .left) (c .before .before .before .before .before .install-ending .ensures)
+    (c .before .before .before .before .ended-with .ensures)
 
 pub on-result-report-spec : {M : Type 1} → statement M
 on-result-report-spec =

@@ -14,16 +14,28 @@ on-announce-reply-requires : tie.Need-on-announce-reply-requires
 on-announce-reply-requires c κs = subst (λ (k : ℕ). OfCode k (c .before .before .before .args .reading)) (c .match .keys2) (c .before .before .before .pre .0)
 
 on-fragment-request-requires : tie.Need-on-fragment-request-requires
-on-fragment-request-requires c κs = (subst (λ (k : ℕ). OfCode k (c .before .before .before .before .args .reading)) (c .before .match .keys3) (c .before .before .before .before .pre .0), c .before .before .before .before .pre .1)
+on-fragment-request-requires c κs = (
+  subst (λ (k : ℕ). OfCode k (c .before .before .before .before .args .reading)) (c .before .match .keys3)
+      (c .before .before .before .before .pre .0),
+  c .before .before .before .before .pre .1,
+)
 
 on-download-report-requires : tie.Need-on-download-report-requires
-on-download-report-requires c κs = (subst (λ (k : ℕ). OfCode k (c .before .before .before .before .args .reading)) (c .before .match .keys4) (c .before .before .before .before .pre .0), c .before .before .before .before .pre .1 .room)
+on-download-report-requires c κs = (
+  subst (λ (k : ℕ). OfCode k (c .before .before .before .before .args .reading)) (c .before .match .keys4)
+      (c .before .before .before .before .pre .0),
+  c .before .before .before .before .pre .1 .room,
+)
 
 on-execute-reply-requires : tie.Need-on-execute-reply-requires
 on-execute-reply-requires c κs = subst (λ (k : ℕ). OfCode k (c .before .before .before .args .reading)) (c .match .keys5) (c .before .before .before .pre .0)
 
 on-result-report-requires : tie.Need-on-result-report-requires
-on-result-report-requires c κs = (subst (λ (k : ℕ). OfCode k (c .before .before .before .before .args .reading)) (c .before .match .keys6) (c .before .before .before .before .pre .0), c .before .before .before .before .pre .1 .room)
+on-result-report-requires c κs = (
+  subst (λ (k : ℕ). OfCode k (c .before .before .before .before .args .reading)) (c .before .match .keys6)
+      (c .before .before .before .before .pre .0),
+  c .before .before .before .before .pre .1 .room,
+)
 
 number-of-requires : tie.Need-number-of-requires
 number-of-requires c κs = search needs
@@ -62,7 +74,9 @@ returns-7 : tie.Need-returns-7
 returns-7 c =
     let r = c .before .before .match .rest in
     c .refused .ensures (c .before .before .before .before .before .args .content .now) (c .before .before .before .before .before .args .reply .now)
-    ∙ unheard _ (c .before .before .before .before .before .args .content .now) (c .before .before .before .before .before .args .reply .now) (c .before .before .before .before .before .args .reading) _ _ _ (r .0 .0 .0 .0 .0 .1) (r .0 .0 .0 .0 .1) (r .0 .0 .0 .1) (r .0 .0 .1) (r .0 .1) (r .1) (c .before .before .before .before .before .pre .0) (c .before .number-of .ensures)
+    ∙ unheard _ (c .before .before .before .before .before .args .content .now) (c .before .before .before .before .before .args .reply .now)
+    (c .before .before .before .before .before .args .reading) _ _ _ (r .0 .0 .0 .0 .0 .1) (r .0 .0 .0 .0 .1) (r .0 .0 .0 .1) (r .0 .0 .1)
+    (r .0 .1) (r .1) (c .before .before .before .before .before .pre .0) (c .before .number-of .ensures)
 
 pub handle-spec : {M : Type 1} → statement M
 handle-spec =

@@ -12,7 +12,10 @@ refused-requires : tie.Need-refused-requires
 refused-requires c κs = search needs
 
 returns : tie.Need-returns
-returns c = c .refused .ensures (c .before .before .before .before .before .before .args .content .now) (c .before .before .before .before .before .before .args .reply .now) ∙ receive-refused _ (c .before .before .before .before .before .before .args .content .now) (c .before .before .before .before .before .before .args .reply .now) _ (c .before .before .call-refusal .ensures) _ _ _ (c .before .if1 .taken)
+returns c = c .refused .ensures (c .before .before .before .before .before .before .args .content .now)
+    (c .before .before .before .before .before .before .args .reply .now)
+    ∙ receive-refused _ (c .before .before .before .before .before .before .args .content .now)
+    (c .before .before .before .before .before .before .args .reply .now) _ (c .before .before .call-refusal .ensures) _ _ _ (c .before .if1 .taken)
 
 read-to-gateway-requires : tie.Need-read-to-gateway-requires
 read-to-gateway-requires c κs = search needs
@@ -28,8 +31,12 @@ byte-at-requires c κs = search needs
 
 handle-requires : tie.Need-handle-requires
 handle-requires c κs = (
-  code-read _ _ (c .before .before .before .before .before .before .before .before .before .before .args .message .now) (c .before .before .before .before .read-to-gateway .result) _ _ (c .before .before .before .before .read-to-gateway .ensures) (c .before .byte-at .ensures),
-  guarded _ (c .before .before .before .before .before .before .before .before .before .before .args .content .now) (c .before .before .before .before .before .before .before .before .before .before .args .reply .now) _ (c .before .before .before .before .before .before .call-refusal .ensures) (c .before .before .before .before .before .if1 .left),
+  code-read _ _ (c .before .before .before .before .before .before .before .before .before .before .args .message .now)
+      (c .before .before .before .before .read-to-gateway .result) _ _ (c .before .before .before .before .read-to-gateway .ensures)
+      (c .before .byte-at .ensures),
+  guarded _ (c .before .before .before .before .before .before .before .before .before .before .args .content .now)
+      (c .before .before .before .before .before .before .before .before .before .before .args .reply .now) _
+      (c .before .before .before .before .before .before .call-refusal .ensures) (c .before .before .before .before .before .if1 .left),
 )
 
 same-length : tie.Need-same-length
@@ -38,7 +45,13 @@ same-length c = search needs
 returns-2 : tie.Need-returns-2
 returns-2 c =
     c .before .before .handle .ensures
-    ∙ receive-handled _ (c .before .before .before .before .before .before .before .before .before .before .before .before .before .args .content .now) (c .before .before .before .before .before .before .before .before .before .before .before .before .before .args .reply .now) _ (c .before .before .before .before .before .before .before .before .before .call-refusal .ensures) _ _ (c .before .before .before .before .before .before .before .before .before .before .before .before .before .args .message .now) (c .before .before .before .before .before .before .before .read-to-gateway .result) _ _ (c .before .before .before .before .before .before .before .before .if1 .left) (c .before .before .before .before .before .before .before .read-to-gateway .ensures)
+    ∙ receive-handled _ (c .before .before .before .before .before .before .before .before .before .before .before .before .before .args .content
+    .now) (c .before .before .before .before .before .before .before .before .before .before .before .before .before .args .reply .now) _
+    (c .before .before .before .before .before .before .before .before .before .call-refusal .ensures) _ _
+    (c .before .before .before .before .before .before .before .before .before .before .before .before .before .args .message .now)
+    (c .before .before .before .before .before .before .before .read-to-gateway .result) _ _
+    (c .before .before .before .before .before .before .before .before .if1 .left)
+    (c .before .before .before .before .before .before .before .read-to-gateway .ensures)
     (c .before .before .before .before .before .before .version-place .ensures) (c .before .before .before .before .before .version-at .ensures)
 
 pub receive-spec : {M : Type 1} → statement M

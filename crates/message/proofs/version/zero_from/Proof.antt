@@ -1,14 +1,13 @@
+-- `message::version::zero_from` meets its contract: the loop sees only 00: what is left of the list decides. Assumes nothing.
 use Rattle.message.proofs.Texts.{zero-more, zero-not, zero-ended}
 use Rattle.message.specs.Version.{allZero}
 use borrow.Author.Needs.{needs}
 use lib.ListN.{length, drop}
 use native.Mathlib.Omega.{arith}
 use mathlib.Core.Path.{_≡_, refl, sym, _∙_}
-use Prim.Native.Nat.{_≤_, _-_}
+use Prim.Native.Nat.{_-_}
 use Rattle.message.proofs.version.zero_from.Statement.{statement}
 use Rattle.message.proofs.version.zero_from.Tie as tie
-use Rattle.message.proofs.version.zero_from.Reads as reads
-use Rattle.message.proofs.version.zero_from.Lts as lts
 
 abbrev Inv-loop : tie.InvT-loop
 Inv-loop at version i₀ i = allZero (drop i version) ≡ allZero (drop at version)
@@ -16,31 +15,24 @@ Inv-loop at version i₀ i = allZero (drop i version) ≡ allZero (drop at versi
 abbrev μ-loop : tie.MeasureT-loop
 μ-loop at version i₀ i = 16 - i
 
--- src/version.rt:33:5
 loop-holds : tie.Need-loop-holds Inv-loop μ-loop
 loop-holds c = refl
 
--- src/version.rt:34:12
 array-read-if1 : tie.Need-array-read-if1 Inv-loop μ-loop
 array-read-if1 c = search needs
 
--- src/version.rt:35:13
 returns : tie.Need-returns Inv-loop μ-loop
 returns c = sym (zero-not (c .before .before .before .args .t1) (c .before .before .loop .i) (search needs) (c .if1 .taken)) ∙ c .before .before .loop .inv
 
--- src/version.rt:37:9
 add-i : tie.Need-add-i Inv-loop μ-loop
 add-i c = omega arith
 
--- src/version.rt:33:5
 loop-less : tie.Need-loop-less Inv-loop μ-loop
 loop-less c = omega arith
 
--- src/version.rt:33:5
 loop-again : tie.Need-loop-again Inv-loop μ-loop
 loop-again c = sym (zero-more (c .before .before .before .args .t1) (c .before .before .loop .i) (search needs) (c .if1 .left)) ∙ c .before .before .loop .inv
 
--- src/version.rt:29:1
 returns-2 : tie.Need-returns-2 Inv-loop μ-loop
 returns-2 c =
     let e : length (c .before .before .args .t1) ≡ 16 = search needs in

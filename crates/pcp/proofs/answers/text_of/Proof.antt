@@ -1,3 +1,4 @@
+-- `pcp::answers::text_of` meets its contract: up to 16 bytes as they are, with 00 behind them; of more, the text that is none. Assumes nothing.
 use Rattle.pcp.specs.Exports.{textOf}
 use Rattle.basis.proofs.Choosing.{pick-yes, pick-no}
 use borrow.Author.Tests.{le-leb, lt-leb}
@@ -5,20 +6,14 @@ use mathlib.Core.Path.{sym, _∙_}
 use borrow.Author.Needs.{needs}
 use Rattle.pcp.proofs.answers.text_of.Statement.{statement}
 use Rattle.pcp.proofs.answers.text_of.Tie as tie
-use Rattle.pcp.proofs.answers.text_of.Reads as reads
-use Rattle.pcp.proofs.answers.text_of.Lts as lts
-use Rattle.message.proofs.version_at.Reads as version-at-reads
 
--- src/answers.rt:24:9
 version-at-requires : tie.Need-version-at-requires
 version-at-requires c κs = search needs
 
--- src/answers.rt:20:1
 returns : tie.Need-returns
 unfolding textOf
 returns c = c .version-at .ensures ∙ sym (pick-yes _ _ _ (le-leb _ 16 (c .before .if1 .taken)))
 
--- src/answers.rt:20:1
 returns-2 : tie.Need-returns-2
 unfolding textOf
 returns-2 c = sym (pick-no _ _ _ (lt-leb _ 16 (c .if1 .left)))

@@ -1,40 +1,34 @@
+-- `pcp::device_calls::pcp_raw_device_install_finished` meets its contract: 64 for a short record buffer, else the device's call between reading the
+-- record and keeping it. Assumes nothing.
 use Rattle.pcp.proofs.Calls.{too-short, device-finished}
 use Rattle.pcp.specs.Exports.{deviceInstallFinishedOf}
-use mathlib.Core.Path.{_∙_}
 use Rattle.layout.specs.Layout.{deviceLength}
 use borrow.Author.Needs.{needs}
 use Rattle.pcp.proofs.device_calls.pcp_raw_device_install_finished.Statement.{statement}
 use Rattle.pcp.proofs.device_calls.pcp_raw_device_install_finished.Tie as tie
-use Rattle.pcp.proofs.device_calls.pcp_raw_device_install_finished.Reads as reads
-use Rattle.pcp.proofs.device_calls.pcp_raw_device_install_finished.Lts as lts
-use Rattle.device.proofs.install_finished.Reads as install-finished-reads
-use Rattle.layout.proofs.device_at.Reads as device-at-reads
-use Rattle.layout.proofs.keep_device.Reads as keep-device-reads
 
--- src/device_calls.rt:78:9
 returns : tie.Need-returns
 unfolding deviceInstallFinishedOf
 returns c = too-short deviceLength (c .before .before .args .bytes .now) _ _ (c .if1 .taken)
 
--- src/device_calls.rt:80:45
 device-at-requires : tie.Need-device-at-requires
 device-at-requires c κs = search needs
 
--- src/device_calls.rt:80:9
 install-finished-requires : tie.Need-install-finished-requires
 install-finished-requires c κs = search needs
 
--- src/device_calls.rt:81:5
 keep-device-requires : tie.Need-keep-device-requires
 keep-device-requires c κs = search needs
 
--- src/device_calls.rt:73:1
 same-length : tie.Need-same-length
 same-length c = search needs
 
--- src/device_calls.rt:73:1
 returns-2 : tie.Need-returns-2
-returns-2 c = device-finished (c .before .before .before .before .before .before .before .before .before .args .bytes .now) _ (c .before .before .before .before .before .before .before .if1 .left) _ (c .before .before .before .before .before .before .before .before .before .args .code) _ (c .before .before .before .before .before .device-at .ensures) (c .before .before .before .before .install-finished .ensures) (c .before .before .keep-device .ensures)
+returns-2 c = device-finished (c .before .before .before .before .before .before .before .before .before .args .bytes .now) _
+    (c .before .before .before .before .before .before .before .if1 .left) _
+    (c .before .before .before .before .before .before .before .before .before .args .code) _
+    (c .before .before .before .before .before .device-at .ensures) (c .before .before .before .before .install-finished .ensures)
+    (c .before .before .keep-device .ensures)
 
 pub pcp-raw-device-install-finished-spec : {M : Type 1} → statement M
 pcp-raw-device-install-finished-spec =

@@ -19,7 +19,10 @@ same-length : tie.Need-same-length
 same-length c = search needs
 
 returns : tie.Need-returns
-returns c = rw (← c .before .before .before .before .before .before .hex-figure .ensures, ← c .before .before .before .before .before .hex-figure2 .ensures) (c .before .before .put-text .ensures)
+returns c = rw (
+  ← c .before .before .before .before .before .before .hex-figure .ensures,
+  ← c .before .before .before .before .before .hex-figure2 .ensures,
+) (c .before .before .put-text .ensures)
 
 pub put-byte-spec : {M : Type 1} → statement M
 put-byte-spec =

@@ -22,7 +22,10 @@ shared-slice-read-put-byte : tie.Need-shared-slice-read-put-byte Inv-loop μ-loo
 shared-slice-read-put-byte c = search needs
 
 put-byte-requires : tie.Need-put-byte-requires Inv-loop μ-loop
-put-byte-requires c κs = hex-room (c .before .before .before .before .before .before .args .bytes .now) (c .before .before .before .before .before .before .args .out .now) (c .before .before .before .before .before .before .args .at) (c .before .before .before .loop .i) (c .before .before .before .before .before .before .pre) (c .before .before .before .loop .inv .1) (c .before .before .loop-test .taken)
+put-byte-requires c κs = hex-room (c .before .before .before .before .before .before .args .bytes .now)
+    (c .before .before .before .before .before .before .args .out .now) (c .before .before .before .before .before .before .args .at)
+    (c .before .before .before .loop .i) (c .before .before .before .before .before .before .pre) (c .before .before .before .loop .inv .1)
+    (c .before .before .loop-test .taken)
 
 add-i : tie.Need-add-i Inv-loop μ-loop
 add-i c = omega arith
@@ -31,13 +34,21 @@ loop-less : tie.Need-loop-less Inv-loop μ-loop
 loop-less c = omega arith
 
 loop-again : tie.Need-loop-again Inv-loop μ-loop
-loop-again c = (omega arith, hex-onward (c .before .before .before .before .before .before .before .before .before .args .bytes .now) (c .before .before .before .before .before .before .before .before .before .args .out .now) (c .before .before .before .before .before .before .before .before .before .args .at) (c .before .before .before .before .before .before .loop .i) (c .before .before .before .before .before .before .before .before .before .pre) (c .before .before .before .before .before .before .loop .inv .1) (c .before .before .before .before .before .loop-test .taken) (c .before .before .put-byte .ensures))
+loop-again c = (
+  omega arith,
+  hex-onward (c .before .before .before .before .before .before .before .before .before .args .bytes .now)
+      (c .before .before .before .before .before .before .before .before .before .args .out .now)
+      (c .before .before .before .before .before .before .before .before .before .args .at) (c .before .before .before .before .before .before .loop .i)
+      (c .before .before .before .before .before .before .before .before .before .pre) (c .before .before .before .before .before .before .loop .inv .1)
+      (c .before .before .before .before .before .loop-test .taken) (c .before .before .put-byte .ensures),
+)
 
 same-length : tie.Need-same-length Inv-loop μ-loop
 same-length c = c .before .loop .inv .1 .same
 
 returns : tie.Need-returns Inv-loop μ-loop
-returns c = hex-complete (c .before .before .before .before .args .bytes .now) (c .before .before .before .before .args .out .now) (c .before .before .before .before .args .at) (c .before .loop .i) (c .before .before .before .before .pre) (c .before .loop .inv .1) (c .loop-test .left)
+returns c = hex-complete (c .before .before .before .before .args .bytes .now) (c .before .before .before .before .args .out .now)
+    (c .before .before .before .before .args .at) (c .before .loop .i) (c .before .before .before .before .pre) (c .before .loop .inv .1) (c .loop-test .left)
 
 pub put-hex-spec : {M : Type 1} → statement M
 put-hex-spec =

@@ -5,28 +5,42 @@ use Rattle.transcript.proofs.text.put_line.Statement.{statement}
 use Rattle.transcript.proofs.text.put_line.Tie as tie
 
 put-number-requires : tie.Need-put-number-requires
-put-number-requires c κs = room₁ (c .before .before .before .args .number) (c .before .before .before .args .outcome) (c .before .before .before .args .phase) (c .before .before .before .args .reply .now) (c .before .before .before .args .out .now) (c .before .before .before .args .at) (c .before .before .before .pre)
+put-number-requires c κs = room₁ (c .before .before .before .args .number) (c .before .before .before .args .outcome)
+    (c .before .before .before .args .phase) (c .before .before .before .args .reply .now) (c .before .before .before .args .out .now)
+    (c .before .before .before .args .at) (c .before .before .before .pre)
 
 put-number-requires-2 : tie.Need-put-number-requires-2
 put-number-requires-2 c κs = room₂ _ _ _ _ _ _ (c .before .before .before .before .before .before .before .pre) (c .before .before .before .put-number .ensures)
 
 put-number-requires-3 : tie.Need-put-number-requires-3
-put-number-requires-3 c κs = room₃ _ _ _ _ _ _ (c .before .before .before .before .before .before .before .before .before .before .before .pre) (c .before .before .before .before .before .before .before .put-number .ensures) (c .before .before .before .put-number2 .ensures)
+put-number-requires-3 c κs = room₃ _ _ _ _ _ _ (c .before .before .before .before .before .before .before .before .before .before .before .pre)
+    (c .before .before .before .before .before .before .before .put-number .ensures) (c .before .before .before .put-number2 .ensures)
 
 put-reply-requires : tie.Need-put-reply-requires
-put-reply-requires c κs = room₄ _ _ _ _ _ _ (c .before .before .before .before .before .before .before .before .before .before .before .before .before .before .before .pre) (c .before .before .before .before .before .before .before .before .before .before .before .put-number .ensures) (c .before .before .before .before .before .before .before .put-number2 .ensures) (c .before .before .before .put-number3 .ensures)
+put-reply-requires c κs = room₄ _ _ _ _ _ _ (c .before .before .before .before .before .before .before .before .before .before .before .before .before
+    .before .before .pre) (c .before .before .before .before .before .before .before .before .before .before .before .put-number .ensures)
+    (c .before .before .before .before .before .before .before .put-number2 .ensures) (c .before .before .before .put-number3 .ensures)
 
 slice-aggregate-put-text : tie.Need-slice-aggregate-put-text
 slice-aggregate-put-text c = search needs
 
 put-text-requires : tie.Need-put-text-requires
-put-text-requires c κs = room₅ _ _ _ _ _ _ (c .before .before .before .before .before .before .before .before .before .before .before .before .before .before .before .before .before .before .before .before .pre) (c .before .before .before .before .before .before .before .before .before .before .before .before .before .before .before .before .put-number .ensures) (c .before .before .before .before .before .before .before .before .before .before .before .before .put-number2 .ensures) (c .before .before .before .before .before .before .before .before .put-number3 .ensures) (c .before .before .before .before .put-reply .ensures)
+put-text-requires c κs = room₅ _ _ _ _ _ _ (c .before .before .before .before .before .before .before .before .before .before .before .before .before
+    .before .before .before .before .before .before .before .pre)
+    (c .before .before .before .before .before .before .before .before .before .before .before .before .before .before .before .before .put-number
+    .ensures) (c .before .before .before .before .before .before .before .before .before .before .before .before .put-number2 .ensures)
+    (c .before .before .before .before .before .before .before .before .put-number3 .ensures) (c .before .before .before .before .put-reply .ensures)
 
 same-length : tie.Need-same-length
 same-length c = search needs
 
 returns : tie.Need-returns
-returns c = line-whole _ _ _ _ _ _ (c .before .before .before .before .before .before .before .before .before .before .before .before .before .before .before .before .before .before .before .before .before .before .before .pre) (c .before .before .before .before .before .before .before .before .before .before .before .before .before .before .before .before .before .before .before .put-number .ensures) (c .before .before .before .before .before .before .before .before .before .before .before .before .before .before .before .put-number2 .ensures) (c .before .before .before .before .before .before .before .before .before .before .before .put-number3 .ensures) (c .before .before .before .before .before .before .before .put-reply .ensures) (c .before .before .put-text .ensures)
+returns c = line-whole _ _ _ _ _ _ (c .before .before .before .before .before .before .before .before .before .before .before .before .before .before
+    .before .before .before .before .before .before .before .before .before .pre)
+    (c .before .before .before .before .before .before .before .before .before .before .before .before .before .before .before .before .before .before
+    .before .put-number .ensures) (c .before .before .before .before .before .before .before .before .before .before .before .before .before .before
+    .before .put-number2 .ensures) (c .before .before .before .before .before .before .before .before .before .before .before .put-number3 .ensures)
+    (c .before .before .before .before .before .before .before .put-reply .ensures) (c .before .before .put-text .ensures)
 
 pub put-line-spec : {M : Type 1} → statement M
 put-line-spec =

@@ -32,13 +32,26 @@ part-put-text-end : tie.Need-part-put-text-end
 part-put-text-end c = search needs
 
 put-text-requires : tie.Need-put-text-requires
-put-text-requires c κs = rw (number-written (c .before .before .before .before .before .before .before .before .before .before .args .n) (c .before .before .before .before .before .before .before .before .before .before .args .end) (c .before .before .before .before .before .before .before .before .figure .ensures) (c .before .before .before .before .before .before .before .figure2 .ensures) (c .before .before .before .before .before .before .figure3 .ensures) (c .before .before .before .before .before .figure4 .ensures) (c .before .before .before .before .figure5 .ensures) (c .before .before .zeros .ensures)) (c .before .before .before .before .before .before .before .before .before .before .pre)
+put-text-requires c κs = rw (number-written (c .before .before .before .before .before .before .before .before .before .before .args .n)
+    (c .before .before .before .before .before .before .before .before .before .before .args .end)
+    (c .before .before .before .before .before .before .before .before .figure .ensures)
+    (c .before .before .before .before .before .before .before .figure2 .ensures)
+    (c .before .before .before .before .before .before .figure3 .ensures) (c .before .before .before .before .before .figure4 .ensures)
+    (c .before .before .before .before .figure5 .ensures) (c .before .before .zeros .ensures))
+    (c .before .before .before .before .before .before .before .before .before .before .pre)
 
 same-length : tie.Need-same-length
 same-length c = search needs
 
 returns : tie.Need-returns
-returns c = rw (← number-written (c .before .before .before .before .before .before .before .before .before .before .before .before .before .args .n) (c .before .before .before .before .before .before .before .before .before .before .before .before .before .args .end) (c .before .before .before .before .before .before .before .before .before .before .before .figure .ensures) (c .before .before .before .before .before .before .before .before .before .before .figure2 .ensures) (c .before .before .before .before .before .before .before .before .before .figure3 .ensures) (c .before .before .before .before .before .before .before .before .figure4 .ensures) (c .before .before .before .before .before .before .before .figure5 .ensures) (c .before .before .before .before .before .zeros .ensures)) (c .before .before .put-text .ensures)
+returns c = rw (← number-written (c .before .before .before .before .before .before .before .before .before .before .before .before .before .args .n)
+    (c .before .before .before .before .before .before .before .before .before .before .before .before .before .args .end)
+    (c .before .before .before .before .before .before .before .before .before .before .before .figure .ensures)
+    (c .before .before .before .before .before .before .before .before .before .before .figure2 .ensures)
+    (c .before .before .before .before .before .before .before .before .before .figure3 .ensures)
+    (c .before .before .before .before .before .before .before .before .figure4 .ensures)
+    (c .before .before .before .before .before .before .before .figure5 .ensures) (c .before .before .before .before .before .zeros .ensures))
+    (c .before .before .put-text .ensures)
 
 pub put-number-spec : {M : Type 1} → statement M
 put-number-spec =
