@@ -1,5 +1,5 @@
--- `codec::write::put_fields` meets its contract: result, version, words and data one behind the other: each put is a patch where the last one
--- ended. Assumes nothing.
+-- `codec::write::put_fields` meets its contract: result, version and words one behind the other, each put a patch where the last one ended.
+-- Assumes nothing.
 use mathlib.Core.List.{[], _∷_}
 use Rattle.codec.proofs.Writing.{fields-in}
 use lib.ListN.{length}

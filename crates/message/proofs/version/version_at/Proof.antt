@@ -1,5 +1,5 @@
--- `message::version::version_at` meets its contract: the loop copies byte by byte: what is copied, and the part that is left, make the whole part.
--- Assumes nothing.
+-- `message::version::version_at` meets its contract: past the end there are only zeros; else the loop copies byte by byte, and what is copied
+-- and the part that is left make the whole part. Assumes nothing.
 use Rattle.message.proofs.Texts.{filled, whole}
 use Rattle.basis.proofs.Lists.{part-none}
 use Rattle.basis.specs.Bytes.{part}
