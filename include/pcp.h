@@ -175,7 +175,7 @@
 
    Each call gives a number: 0 (PCP_HANDLED), or why the call was refused.  The
    tests are made in the order that the function's comment names, and the first
-   that fails gives the number.  A refused call has written nothing: record,
+   that fails gives the number.  A refused call has changed nothing: record,
    image, map and reply are as they were, and the reply's length is 0.  On 0 the
    reply, if there is one, fills the front of its buffer; the rest stays.  No
    bytes that arrive, from wherever, lead to anything else.

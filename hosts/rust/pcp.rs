@@ -103,7 +103,7 @@
 //!
 //! # What can be relied on
 //!
-//! Any bytes may arrive: a call answers, or refuses and has written nothing. Let both ends use this library, and the
+//! Any bytes may arrive: a call answers, or refuses and has changed nothing. Let both ends use this library, and the
 //! hosts keep to these duties, so that nothing reaches either end but what the other sent after the gateway came to
 //! Offer, undamaged. Then, whatever is lost, repeated, delayed or reordered: when the device answers 23 with `00`, its
 //! image begins with the gateway's package; and when the gateway ends with [`Success`](Ending::Success), the device's

@@ -148,7 +148,8 @@ module _ (buffer running : List ℕ) (m : HostMade buffer running) where
 
   pub made-room : deviceLength ≤ length (deviceNewOf buffer running .bytes)
   unfolding deviceNewOf
-  made-room = by-cases (λ (k : Left). deviceLength ≤ length (k .bytes)) (λ _. kept-room _ deviceLength _ buffer (m .fits)) (λ _. m .fits)
+  made-room = by-cases (λ (k : Left). deviceLength ≤ length (k .bytes))
+      (λ _. by-cases (λ (l : List ℕ). deviceLength ≤ length l) (λ _. kept-room deviceLength _ buffer (m .fits)) (λ _. m .fits)) (λ _. m .fits)
 
   pub made-seen : (image map : List ℕ) → deviceSeen (hostMade buffer running image map)
       ≡ record { device = newOf (textOf running) .device; image = image; map = map }
@@ -162,7 +163,9 @@ module _ (b : HostedBefore) (r : HostedReady b) where
   started-room : gatewayLength ≤ length (gatewayStartOf (b .gatewayBuffer) (b .version) (b .size) (b .content) (b .checked) .bytes)
   unfolding gatewayStartOf
   started-room =
-      by-cases (λ (k : Left). gatewayLength ≤ length (k .bytes)) (λ _. kept-room _ gatewayLength _ (b .gatewayBuffer) (r .gateway-fits))
+      by-cases (λ (k : Left). gatewayLength ≤ length (k .bytes))
+      (λ _. by-cases (λ (l : List ℕ). gatewayLength ≤ length l) (λ _. kept-room gatewayLength _ (b .gatewayBuffer) (r .gateway-fits))
+      (λ _. r .gateway-fits))
       (λ _. r .gateway-fits)
 
   pub device-then : (deviceLength ≤ length (deviceHostThen b .bytes)) × (deviceSeen (deviceHostThen b) ≡ deviceThen (recordsBefore b))

@@ -32,9 +32,9 @@ number-in : (n l : ℕ) → n < 256 → numberIn (packed n l) ≡ n
 number-in n l h = omega arith
 
 -- a record buffer keeps its room
-pub kept-room : (n room : ℕ) (new bytes : List ℕ) → room ≤ length bytes → room ≤ length (kept n room new bytes)
+pub kept-room : (room : ℕ) (new bytes : List ℕ) → room ≤ length bytes → room ≤ length (kept room new bytes)
 unfolding kept over
-kept-room n room new bytes h =
+kept-room room new bytes h =
     by-cases (λ (l : List ℕ). room ≤ length l) (λ _. simp (length-append, length-drop) (omega arith)) (λ _. h)
 
 -- ---- the device's host
@@ -43,10 +43,10 @@ module _ (h : DeviceHost) where
   pub device-room : (c : DeviceCall ℕ) → deviceLength ≤ length (h .bytes) → deviceLength ≤ length (deviceHostNext h c .bytes)
   unfolding deviceHostNext deviceReceiveOf deviceInstallFinishedOf
   device-room (given supported pcp condition message reply) r =
-      by-cases (λ (g : DeviceGiven). deviceLength ≤ length (g .bytes)) (λ _. kept-room _ deviceLength _ (h .bytes) r) (λ _. r)
+      by-cases (λ (g : DeviceGiven). deviceLength ≤ length (g .bytes)) (λ _. kept-room deviceLength _ (h .bytes) r) (λ _. r)
   device-room (asked reply) r = r
   device-room (installed code) r =
-      by-cases (λ (k : Left). deviceLength ≤ length (k .bytes)) (λ _. kept-room _ deviceLength _ (h .bytes) r) (λ _. r)
+      by-cases (λ (k : Left). deviceLength ≤ length (k .bytes)) (λ _. kept-room deviceLength _ (h .bytes) r) (λ _. r)
 
   pub device-next : (c : DeviceCall ℕ) → deviceLength ≤ length (h .bytes) → deviceSeen (deviceHostNext h c) ≡ deviceNext (deviceSeen h) (deviceCallAs fact c)
   unfolding deviceHostNext deviceNext deviceReceiveOf deviceInstallFinishedOf
@@ -55,7 +55,7 @@ module _ (h : DeviceHost) where
       let e : deviceReceiveOf (h .bytes) (h .image) (h .map) reply supported pcp condition message
       ≡ record {
         answer = packed (a .number) (a .length);
-        bytes = deviceKept (h .bytes) (a .number) (a .device);
+        bytes = deviceKept (h .bytes) (a .device);
         image = a .image;
         map = a .map;
         reply = a .reply;
@@ -77,7 +77,7 @@ module _ (h : DeviceHost) where
       let e : deviceReceiveOf (h .bytes) (h .image) (h .map) reply supported pcp condition message
       ≡ record {
         answer = packed (a .number) (a .length);
-        bytes = deviceKept (h .bytes) (a .number) (a .device);
+        bytes = deviceKept (h .bytes) (a .device);
         image = a .image;
         map = a .map;
         reply = a .reply;
@@ -112,7 +112,7 @@ module _ (content bytes : List ℕ) where
   pub gateway-room : (c : GatewayCall ℕ) → gatewayLength ≤ length bytes → gatewayLength ≤ length (gatewayHostNext content bytes c)
   unfolding gatewayHostNext gatewayReceiveOf
   gateway-room (GatewayCall.given supported pcp message reply) r =
-      by-cases (λ (g : GatewayGiven). gatewayLength ≤ length (g .bytes)) (λ _. kept-room _ gatewayLength _ bytes r) (λ _. r)
+      by-cases (λ (g : GatewayGiven). gatewayLength ≤ length (g .bytes)) (λ _. kept-room gatewayLength _ bytes r) (λ _. r)
   gateway-room (GatewayCall.asked reply) r = r
 
   pub gateway-next : (c : GatewayCall ℕ) → gatewayLength ≤ length bytes
@@ -127,7 +127,7 @@ module _ (content bytes : List ℕ) where
   gateway-says (GatewayCall.given supported pcp message reply) r =
       let a : gateway.After = gateway.receiveOf (gatewayAt bytes) content reply (fact supported) (fact pcp) message in
       let e : gatewayReceiveOf bytes content reply supported pcp message
-      ≡ record { answer = packed (a .number) (a .length); bytes = gatewayKept bytes (a .number) (a .gateway); reply = a .reply } =
+      ≡ record { answer = packed (a .number) (a .length); bytes = gatewayKept bytes (a .gateway); reply = a .reply } =
       sym (long-enough gatewayLength bytes _ _ r) in
       ap (λ (g : GatewayGiven). aired (lengthIn (g .answer)) (g .reply)) e
       ∙ ap (λ (k : ℕ). aired k (a .reply))

@@ -4,9 +4,9 @@ use native.Mathlib.Omega.{arith}
 use mathlib.Core.Path.{_≡_, refl, _∙_, ap}
 use mathlib.Core.List.{List, [], _∷_, _++_, append-assoc}
 use lib.ListN.{length, length-append}
-use borrow.Author.Tests.{eq-eqb, ne-eqb, le-leb, lt-leb}
+use borrow.Author.Tests.{le-leb, lt-leb}
 use Rattle.basis.specs.Bytes.{wordBytes, over, patched}
-use Rattle.basis.proofs.Choosing.{pick-yes, pick-no, and-both}
+use Rattle.basis.proofs.Choosing.{pick-yes, pick-no}
 use Rattle.basis.proofs.Lists.{patched-over, patched-front}
 use Rattle.device_record.specs.declared.Device.{Device}
 use Rattle.gateway.specs.declared.Gateway.{Gateway}
@@ -59,14 +59,10 @@ gateway-put g o o₁ o₂ o₃ numbers v n e f h =
 -- ---- the buffer after a call
 
 module _ (room : ℕ) (new buffer : List ℕ) where
-  pub kept-refused : (number : ℕ) → (number ≡ 0 → ⊥) → kept number room new buffer ≡ buffer
+  pub kept-short : length buffer < room → kept room new buffer ≡ buffer
   unfolding kept
-  kept-refused number h = pick-no _ _ _ (rw (ne-eqb number 0 h))
+  kept-short h = pick-no _ _ _ (lt-leb room (length buffer) h)
 
-  pub kept-short : (number : ℕ) → number ≡ 0 → length buffer < room → kept number room new buffer ≡ buffer
+  pub kept-new : room ≤ length buffer → kept room new buffer ≡ over new buffer
   unfolding kept
-  kept-short number e h = pick-no _ _ _ (rw (eq-eqb number 0 e) (lt-leb room (length buffer) h))
-
-  pub kept-new : (number : ℕ) → number ≡ 0 → room ≤ length buffer → kept number room new buffer ≡ over new buffer
-  unfolding kept
-  kept-new number e h = pick-yes _ _ _ (and-both (eq-eqb number 0 e) (le-leb room (length buffer) h))
+  kept-new h = pick-yes _ _ _ (le-leb room (length buffer) h)

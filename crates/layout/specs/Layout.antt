@@ -1,9 +1,8 @@
 -- The records of the device ("head" in 01) and the gateway as bytes in a buffer that a host lends: fixed layouts, every number high byte
 -- first. Assumes nothing.
 use Prim.Native.Nat.{ℕ, _+_, _*_, _/_, _%_}
-use mathlib.Core.Bool.{_&&_}
 use mathlib.Core.List.{List, [], _∷_, _++_}
-use lib.Dec.{eqb, leb}
+use lib.Dec.{leb}
 use lib.ListN.{length, getD}
 use Rattle.basis.specs.Choice.{pick}
 use Rattle.basis.specs.Bytes.{wordAt, wordBytes, part, over}
@@ -60,7 +59,6 @@ gatewayAt b =
 
 -- ---- after a call
 
--- the buffer in which a record is kept, after a call that answered with a number: the new record at its front where that is 0 and there is
--- room, else as it was
-unfoldable pub kept : (number room : ℕ) (new buffer : List ℕ) → List ℕ
-kept number room new buffer = pick (eqb number 0 && leb room (length buffer)) (over new buffer) buffer
+-- the buffer in which a record is kept: the record that a call returned, with whatever number, at its front where there is room
+unfoldable pub kept : (room : ℕ) (new buffer : List ℕ) → List ℕ
+kept room new buffer = pick (leb room (length buffer)) (over new buffer) buffer

@@ -79,14 +79,11 @@ fn put_device(buffer: &mut [u8], device: Device)
     basis::put(buffer, 33, &numbers);
 }
 
-// The device's record after a call that answered with this number: written on 0 alone, and only
-// where there is room for it.
-pub fn keep_device(buffer: &mut [u8], number: u8, device: Device)
-    ensures { λ _. ⌜ now (buffer .exit) ≡ kept number deviceLength (deviceBytes device) (now (buffer .entry)) ⌝ }
+// The device's record as a call returned it, with whatever number; written only where there is room
+// for it.
+pub fn keep_device(buffer: &mut [u8], device: Device)
+    ensures { λ _. ⌜ now (buffer .exit) ≡ kept deviceLength (deviceBytes device) (now (buffer .entry)) ⌝ }
 {
-    if number != 0 {
-        return;
-    }
     if buffer.len() < DEVICE_LENGTH {
         return;
     }
@@ -152,14 +149,11 @@ fn put_gateway(buffer: &mut [u8], gateway: Gateway)
     basis::put(buffer, 18, &numbers);
 }
 
-// The gateway's record after a call that answered with this number: written on 0 alone, and only
-// where there is room for it.
-pub fn keep_gateway(buffer: &mut [u8], number: u8, gateway: Gateway)
-    ensures { λ _. ⌜ now (buffer .exit) ≡ kept number gatewayLength (gatewayBytes gateway) (now (buffer .entry)) ⌝ }
+// The gateway's record as a call returned it, with whatever number; written only where there is room
+// for it.
+pub fn keep_gateway(buffer: &mut [u8], gateway: Gateway)
+    ensures { λ _. ⌜ now (buffer .exit) ≡ kept gatewayLength (gatewayBytes gateway) (now (buffer .entry)) ⌝ }
 {
-    if number != 0 {
-        return;
-    }
     if buffer.len() < GATEWAY_LENGTH {
         return;
     }

@@ -4,7 +4,7 @@ use native.Mathlib.Omega.{arith}
 use mathlib.Core.Path.{_≡_, sym, _∙_, ap}
 use mathlib.Core.Bool.{Bool}
 use mathlib.Core.List.{List}
-use lib.Dec.{leb}
+use lib.Dec.{eqb, leb}
 use lib.ListN.{length}
 use borrow.Author.Tests.{le-leb, lt-leb}
 use Rattle.basis.specs.Choice.{pick}
@@ -43,27 +43,28 @@ module _ {A : Type 0} (room : ℕ) (bytes : List ℕ) (a b : A) where
 -- ---- the device
 
 module _ (bytes after : List ℕ) (room : deviceLength ≤ length bytes) where
-  pub device-made : (version text : List ℕ) (m : Made) → text ≡ textOf version → m ≡ newOf text → after ≡ deviceKept bytes (m .number) (m .device)
+  pub device-made : (version text : List ℕ) (m : Made) → text ≡ textOf version → m ≡ newOf text → after
+      ≡ pick (eqb (m .number) 0) (deviceKept bytes (m .device)) bytes
       → _≡_ {A = Left} (record { answer = m .number; bytes = after }) (deviceNewOf bytes version)
   unfolding deviceNewOf
   device-made version text m t e k =
       (λ i. record { answer = m .number; bytes = k i })
-      ∙ ap (λ (n : Made). record { answer = n .number; bytes = deviceKept bytes (n .number) (n .device) }) (e ∙ ap newOf t)
+      ∙ ap (λ (n : Made). record { answer = n .number; bytes = pick (eqb (n .number) 0) (deviceKept bytes (n .device)) bytes }) (e ∙ ap newOf t)
       ∙ long-enough deviceLength bytes _ _ room
 
   pub device-finished : (d : Device) (code : ℕ) (f : Finished) → d ≡ deviceAt bytes → f ≡ device.installFinishedOf d code
-      → after ≡ deviceKept bytes (f .number) (f .device)
+      → after ≡ deviceKept bytes (f .device)
       → _≡_ {A = Left} (record { answer = f .number; bytes = after }) (deviceInstallFinishedOf bytes code)
   unfolding deviceInstallFinishedOf
   device-finished d code f at e k =
       (λ i. record { answer = f .number; bytes = k i })
-      ∙ ap (λ (n : Finished). record { answer = n .number; bytes = deviceKept bytes (n .number) (n .device) })
+      ∙ ap (λ (n : Finished). record { answer = n .number; bytes = deviceKept bytes (n .device) })
       (e ∙ ap (λ (d : Device). device.installFinishedOf d code) at)
       ∙ long-enough deviceLength bytes _ _ room
 
   pub device-given : (image map reply image′ map′ reply′ message : List ℕ) (supported pcp condition r : ℕ) (d : Device) (a : Answer) → d ≡ deviceAt bytes
       → afterCall a image′ map′ reply′ ≡ device.receiveOf d image map reply (fact supported) (fact pcp) condition message
-      → after ≡ deviceKept bytes (a .number) (a .device) → r ≡ packed (a .number) (a .length)
+      → after ≡ deviceKept bytes (a .device) → r ≡ packed (a .number) (a .length)
       → _≡_ {A = DeviceGiven} (record { answer = r; bytes = after; image = image′; map = map′; reply = reply′ })
       (deviceReceiveOf bytes image map reply supported pcp condition message)
   unfolding deviceReceiveOf
@@ -71,7 +72,7 @@ module _ (bytes after : List ℕ) (room : deviceLength ≤ length bytes) where
       (λ i. record { answer = p i; bytes = k i; image = image′; map = map′; reply = reply′ })
       ∙ ap (λ (n : device.After). record {
         answer = packed (n .number) (n .length);
-        bytes = deviceKept bytes (n .number) (n .device);
+        bytes = deviceKept bytes (n .device);
         image = n .image;
         map = n .map;
         reply = n .reply;
@@ -107,25 +108,25 @@ module _ (bytes image map reply : List ℕ) (d : Device) (at : d ≡ deviceAt by
 
 module _ (bytes after : List ℕ) (room : gatewayLength ≤ length bytes) where
   pub gateway-started : (version text content : List ℕ) (size checked : ℕ) (s : Started) → text ≡ textOf version
-      → s ≡ startOf text size content (fact checked) → after ≡ gatewayKept bytes (s .number) (s .gateway)
+      → s ≡ startOf text size content (fact checked) → after ≡ pick (eqb (s .number) 0) (gatewayKept bytes (s .gateway)) bytes
       → _≡_ {A = Left} (record { answer = s .number; bytes = after }) (gatewayStartOf bytes version size content checked)
   unfolding gatewayStartOf
   gateway-started version text content size checked s t e k =
       (λ i. record { answer = s .number; bytes = k i })
-      ∙ ap (λ (n : Started). record { answer = n .number; bytes = gatewayKept bytes (n .number) (n .gateway) })
+      ∙ ap (λ (n : Started). record { answer = n .number; bytes = pick (eqb (n .number) 0) (gatewayKept bytes (n .gateway)) bytes })
       (e ∙ ap (λ (v : List ℕ). startOf v size content (fact checked)) t)
       ∙ long-enough gatewayLength bytes _ _ room
 
   pub gateway-given : (content reply reply′ message : List ℕ) (supported pcp r : ℕ) (g : Gateway) (a : gateway-answer.Answer) → g ≡ gatewayAt bytes
       → coded.after a reply′ ≡ gateway.receiveOf g content reply (fact supported) (fact pcp) message
-      → after ≡ gatewayKept bytes (a .number) (a .gateway) → r ≡ packed (a .number) (a .length)
+      → after ≡ gatewayKept bytes (a .gateway) → r ≡ packed (a .number) (a .length)
       → _≡_ {A = GatewayGiven} (record { answer = r; bytes = after; reply = reply′ }) (gatewayReceiveOf bytes content reply supported pcp message)
   unfolding gatewayReceiveOf
   gateway-given content reply reply′ message supported pcp r g a at e k p =
       (λ i. record { answer = p i; bytes = k i; reply = reply′ })
       ∙ ap (λ (n : gateway.After). record {
         answer = packed (n .number) (n .length);
-        bytes = gatewayKept bytes (n .number) (n .gateway);
+        bytes = gatewayKept bytes (n .gateway);
         reply = n .reply;
       })
       (e ∙ ap (λ (g : Gateway). gateway.receiveOf g content reply (fact supported) (fact pcp) message) at)

@@ -1,13 +1,13 @@
 -- The record that a call left is the one that the next call finds. Assumes nothing.
 use Prim.Native.Nat.{ℕ, _≤_}
-use mathlib.Core.Path.{_≡_, refl, sym, _∙_, ap, subst}
-use mathlib.Core.Bool.{Bool, true, false, _&&_, true≢false}
+use mathlib.Core.Path.{_≡_, refl, _∙_, ap, subst}
+use mathlib.Core.Bool.{Bool, true}
 use mathlib.Core.List.{List}
 use lib.Dec.{eqb, leb}
 use lib.ListN.{length}
-use borrow.Author.Tests.{eqb-true, eq-eqb, le-leb}
+use borrow.Author.Tests.{eqb-true, eq-eqb}
 use Rattle.basis.specs.Choice.{pick}
-use Rattle.basis.proofs.Choosing.{by-cases, and-left, and-both}
+use Rattle.basis.proofs.Choosing.{by-cases, pick-yes, and-left}
 use Rattle.basis.proofs.Lists.{length-part}
 use Rattle.message.specs.Version.{goodVersion}
 use Rattle.message.specs.Messages.{DeviceMessage, query, announce, fragment, downloadReply, execute, resultReply, deviceValid, GatewayMessage, queryReply}
@@ -23,14 +23,14 @@ use Rattle.gateway.specs.declared.Gateway.{Gateway}
 use Rattle.gateway.specs.declared.Started.{Started}
 use Rattle.gateway.specs.Record.{startOf}
 use Rattle.gateway.specs.Rules as gateway
-use Rattle.layout.specs.Layout.{kept, deviceAt, deviceLength, gatewayAt, gatewayLength}
+use Rattle.layout.specs.Layout.{deviceAt, deviceLength, gatewayAt, gatewayLength}
 use Rattle.layout.specs.Identity.{DeviceTexts}
 use Rattle.layout.proofs.Identity.{identity}
+use Rattle.layout.proofs.Layouts.{kept-new}
 use Rattle.pcp.specs.Exports.{fact, textOf, Left, DeviceGiven, GatewayGiven, deviceNewOf, deviceReceiveOf, deviceInstallFinishedOf, deviceKept}
 use Rattle.pcp.specs.Exports.{gatewayKept, gatewayStartOf, gatewayReceiveOf}
 use Rattle.pcp.specs.Boundary.{Carried}
 use Rattle.pcp.proofs.Calls.{long-enough}
-use Rattle.pcp.proofs.Refusals.{DeviceOutcome, device-outcome, GatewayOutcome, gateway-outcome, done, declined}
 
 -- ---- version texts of 16 bytes stay so
 
@@ -96,37 +96,17 @@ module _ (d : Device) where
       (λ _. record { running = by-cases (λ (v : List ℕ). length v ≡ 16) (λ _. s .target) (λ _. s .running); target = s .target })
       (λ _. s)
 
-  -- a refusal gives the record back
-  finished-refused : (code : ℕ) → (device.installFinishedOf d code .number ≡ 0 → ⊥) → device.installFinishedOf d code .device ≡ d
-  unfolding device.installFinishedOf
-  finished-refused code =
-      by-cases (λ (f : Finished). (f .number ≡ 0 → ⊥) → f .device ≡ d) (λ _ h. absurd (h refl)) (λ _ _. refl)
-
 at-texts : (bytes : List ℕ) → DeviceTexts (deviceAt bytes)
 unfolding deviceAt
 at-texts bytes = record { running = length-part bytes 1 16; target = length-part bytes 17 16 }
 
-received-refused : (d : Device) (image map reply : List ℕ) (a : device.After) → DeviceOutcome d image map reply a → (a .number ≡ 0 → ⊥) → a .device ≡ d
-received-refused d image map reply a (done e) h = absurd (h e)
-received-refused d image map reply a (declined n small e) h = ap (λ (a : device.After). a .device) e
-
 -- ---- a record into its buffer and back
 
-module _ (n : ℕ) (bytes : List ℕ) where
-  not-zero : (room : ℕ) → room ≤ length bytes → (eqb n 0 && leb room (length bytes)) ≡ false → n ≡ 0 → ⊥
-  not-zero room h f z = true≢false (sym (and-both (eq-eqb n 0 z) (le-leb room (length bytes) h)) ∙ f)
+carried : (bytes : List ℕ) (e : Device) → deviceLength ≤ length bytes → DeviceTexts e → deviceAt (deviceKept bytes e) ≡ e
+carried bytes e room s = ap deviceAt (kept-new deviceLength _ bytes room) ∙ identity .device-kept e bytes s
 
-  carried : (e : Device) → deviceLength ≤ length bytes → DeviceTexts e → ((n ≡ 0 → ⊥) → e ≡ deviceAt bytes) → deviceAt (deviceKept bytes n e) ≡ e
-  unfolding kept
-  carried e room s h =
-      by-cases (λ (l : List ℕ). deviceAt l ≡ e) (λ _. identity .device-kept e bytes s)
-      (λ f. sym (h (not-zero deviceLength room f)))
-
-  gateway-carried : (e : Gateway) → gatewayLength ≤ length bytes → length (e .version) ≡ 16 → ((n ≡ 0 → ⊥) → e ≡ gatewayAt bytes)
-      → gatewayAt (gatewayKept bytes n e) ≡ e
-  unfolding kept
-  gateway-carried e room s h =
-      by-cases (λ (l : List ℕ). gatewayAt l ≡ e) (λ _. identity .gateway-kept e bytes s) (λ f. sym (h (not-zero gatewayLength room f)))
+gateway-carried : (bytes : List ℕ) (e : Gateway) → gatewayLength ≤ length bytes → length (e .version) ≡ 16 → gatewayAt (gatewayKept bytes e) ≡ e
+gateway-carried bytes e room s = ap gatewayAt (kept-new gatewayLength _ bytes room) ∙ identity .gateway-kept e bytes s
 
 -- ---- the gateway's text stays
 
@@ -152,10 +132,6 @@ module _ (g : Gateway) (content reply : List ℕ) where
   received-version : (supported pcp : Bool) (message : List ℕ) → gateway.receiveOf g content reply supported pcp message .gateway .version ≡ g .version
   unfolding Q gateway.receiveOf
   received-version supported pcp message = by-cases Q (λ _. handled-version (readOf toGateway supported pcp message)) (λ _. refl)
-
-  gateway-refused : (a : gateway.After) → GatewayOutcome g content reply a → (a .number ≡ 0 → ⊥) → a .gateway ≡ g
-  gateway-refused a (done e) h = absurd (h e)
-  gateway-refused a (declined n small e) h = ap (λ (a : gateway.After). a .gateway) e
 
 gateway-at-text : (bytes : List ℕ) → length (gatewayAt bytes .version) ≡ 16
 unfolding gatewayAt
@@ -184,22 +160,20 @@ records-carried =
     record {
       device-new = λ bytes version room e.
           with-room (λ (k : Left). deviceAt (k .bytes) ≡ newOf (textOf version) .device) deviceLength bytes _ _ room
-          (carried _ bytes _ room (made-texts (textOf version) (text-length version)) (λ h. absurd (h e)));
+          (ap deviceAt (pick-yes _ _ bytes (eq-eqb _ 0 e)) ∙ carried bytes _ room (made-texts (textOf version) (text-length version)));
       device-receive = λ bytes image map reply supported pcp condition message room.
           with-room (λ (g : DeviceGiven). deviceAt (g .bytes)
           ≡ device.receiveOf (deviceAt bytes) image map reply (fact supported) (fact pcp) condition message .device) deviceLength bytes _ _ room
-          (carried _ bytes _ room (received-texts (deviceAt bytes) image map reply (at-texts bytes) _ _ condition message)
-          (received-refused (deviceAt bytes) image map reply _ (device-outcome (deviceAt bytes) image map reply _ _ condition message)));
+          (carried bytes _ room (received-texts (deviceAt bytes) image map reply (at-texts bytes) _ _ condition message));
       device-install-finished = λ bytes code room.
           with-room (λ (k : Left). deviceAt (k .bytes) ≡ device.installFinishedOf (deviceAt bytes) code .device) deviceLength bytes _ _ room
-          (carried _ bytes _ room (finished-texts (deviceAt bytes) (at-texts bytes) code)
-          (finished-refused (deviceAt bytes) code));
+          (carried bytes _ room (finished-texts (deviceAt bytes) (at-texts bytes) code));
       gateway-start = λ bytes version size content checked room e.
           with-room (λ (k : Left). gatewayAt (k .bytes) ≡ startOf (textOf version) size content (fact checked) .gateway) gatewayLength bytes _ _ room
-          (gateway-carried _ bytes _ room (started-text (textOf version) size content _ (text-length version)) (λ h. absurd (h e)));
+          (ap gatewayAt (pick-yes _ _ bytes (eq-eqb _ 0 e)) ∙ gateway-carried bytes _ room
+          (started-text (textOf version) size content _ (text-length version)));
       gateway-receive = λ bytes content reply supported pcp message room.
           with-room (λ (g : GatewayGiven). gatewayAt (g .bytes)
           ≡ gateway.receiveOf (gatewayAt bytes) content reply (fact supported) (fact pcp) message .gateway) gatewayLength bytes _ _ room
-          (gateway-carried _ bytes _ room (ap length (received-version (gatewayAt bytes) content reply _ _ message) ∙ gateway-at-text bytes)
-          (gateway-refused (gatewayAt bytes) content reply _ (gateway-outcome (gatewayAt bytes) content reply _ _ message)));
+          (gateway-carried bytes _ room (ap length (received-version (gatewayAt bytes) content reply _ _ message) ∙ gateway-at-text bytes));
     }

@@ -1,13 +1,15 @@
 -- Demand 1 at the boundary: any number but 0 leaves every buffer as it was. Assumes nothing.
-use Prim.Native.Nat.{ℕ, _<_}
+use Prim.Native.Nat.{ℕ, _<_, _≤_}
 use native.Mathlib.Omega.{arith}
 use mathlib.Core.Path.{_≡_, refl, sym, _∙_, ap, subst}
 use mathlib.Core.Bool.{Bool}
 use mathlib.Core.List.{List}
 use lib.Dec.{eqb}
 use lib.ListN.{length}
+use borrow.Author.Tests.{ne-eqb, leb-true}
 use Rattle.basis.specs.Choice.{pick}
-use Rattle.basis.proofs.Choosing.{by-cases, refusal-among}
+use Rattle.basis.specs.Bytes.{Bytes}
+use Rattle.basis.proofs.Choosing.{by-cases, pick-no, refusal-among}
 use Rattle.message.specs.Messages.{DeviceMessage, query, announce, fragment, downloadReply, execute, resultReply, GatewayMessage, queryReply, announceReply}
 use Rattle.message.specs.Messages.{fragmentRequest, downloadReport, executeReply, resultReport, Table, Reading, found, refused, toDevice, toGateway}
 use Rattle.codec.specs.Codec.{readOf, said}
@@ -18,8 +20,9 @@ use Rattle.device.specs.declared.Finished.{Finished}
 use Rattle.device.specs.Rules as device
 use Rattle.gateway.specs.declared.Gateway.{Gateway}
 use Rattle.gateway.specs.Rules as gateway
-use Rattle.layout.specs.Layout.{kept, deviceAt, deviceLength, gatewayAt, gatewayLength}
-use Rattle.layout.proofs.Layouts.{kept-refused}
+use Rattle.layout.specs.Layout.{deviceAt, deviceLength, gatewayAt, gatewayLength}
+use Rattle.layout.proofs.Identity.{identity}
+use Rattle.layout.proofs.Layouts.{kept-new}
 use Rattle.pcp.specs.Exports.{packed, Left, Asked, DeviceGiven, GatewayGiven, asked, deviceNewOf, deviceReceiveOf, deviceNextMessageOf}
 use Rattle.pcp.specs.Exports.{deviceInstallFinishedOf, deviceKept, gatewayKept, gatewayStartOf, gatewayReceiveOf, gatewayNextMessageOf}
 use Rattle.pcp.specs.Boundary.{lengthIn, Refused, Demand1}
@@ -37,10 +40,17 @@ read-small t trip supported pcp bytes = at (readOf t supported pcp bytes) refl
     at (found m) e = tt
     at (refused n) e = omega (arith, trip .refused-number supported pcp bytes n e)
 
--- ---- a record that a refused call does not keep
+-- ---- a record that a refused call puts back
 
-stays : (number room : ℕ) (new bytes : List ℕ) → Refused number → kept number room new bytes ≡ bytes
-stays number room new bytes h = kept-refused room new bytes number (λ e. h (omega arith))
+device-back : (bytes : List ℕ) → Bytes bytes → deviceLength ≤ length bytes → deviceKept bytes (deviceAt bytes) ≡ bytes
+device-back bytes b room = kept-new deviceLength _ bytes room ∙ identity .device-same bytes b room
+
+gateway-back : (bytes : List ℕ) → Bytes bytes → gatewayLength ≤ length bytes → gatewayKept bytes (gatewayAt bytes) ≡ bytes
+gateway-back bytes b room = kept-new gatewayLength _ bytes room ∙ identity .gateway-same bytes b room
+
+-- a making or a start that is refused
+unmade : (number : ℕ) (new bytes : List ℕ) → Refused number → pick (eqb number 0) new bytes ≡ bytes
+unmade number new bytes h = pick-no _ _ _ (ne-eqb number 0 (λ e. h (omega arith)))
 
 -- ---- a message is given
 
@@ -181,28 +191,30 @@ DeviceUntouched : (bytes image map reply : List ℕ) → DeviceGiven → Type 0
 DeviceUntouched bytes image map reply g =
     Refused (g .answer) → (lengthIn (g .answer) ≡ 0) × (g .bytes ≡ bytes) × (g .image ≡ image) × (g .map ≡ map) × (g .reply ≡ reply)
 
-device-untouched : (bytes image map reply : List ℕ) (a : device.After) → DeviceOutcome (deviceAt bytes) image map reply a
+device-untouched : (bytes image map reply : List ℕ) → Bytes bytes → deviceLength ≤ length bytes → (a : device.After)
+    → DeviceOutcome (deviceAt bytes) image map reply a
     → DeviceUntouched bytes image map reply
-    (record { answer = packed (a .number) (a .length); bytes = deviceKept bytes (a .number) (a .device); image = a .image; map = a .map; reply = a .reply })
+    (record { answer = packed (a .number) (a .length); bytes = deviceKept bytes (a .device); image = a .image; map = a .map; reply = a .reply })
 unfolding DeviceUntouched
-device-untouched bytes image map reply a (done e) h = absurd (h (omega arith))
-device-untouched bytes image map reply a (declined n small e) h =
+device-untouched bytes image map reply b room a (done e) h = absurd (h (omega arith))
+device-untouched bytes image map reply b room a (declined n small e) h =
     subst (λ (a : device.After). Refused (packed (a .number) (a .length)) → (lengthIn (packed (a .number) (a .length)) ≡ 0)
-    × (deviceKept bytes (a .number) (a .device) ≡ bytes) × (a .image ≡ image) × (a .map ≡ map) × (a .reply ≡ reply)) (sym e)
-    (λ h. (omega arith, stays n deviceLength _ bytes (λ z. h (omega arith)), refl, refl, refl)) h
+    × (deviceKept bytes (a .device) ≡ bytes) × (a .image ≡ image) × (a .map ≡ map) × (a .reply ≡ reply)) (sym e)
+    (λ h. (omega arith, device-back bytes b room, refl, refl, refl)) h
 
 GatewayUntouched : (bytes reply : List ℕ) → GatewayGiven → Type 0
 GatewayUntouched bytes reply g = Refused (g .answer) → (lengthIn (g .answer) ≡ 0) × (g .bytes ≡ bytes) × (g .reply ≡ reply)
 
-gateway-untouched : (bytes content reply : List ℕ) (a : gateway.After) → GatewayOutcome (gatewayAt bytes) content reply a
+gateway-untouched : (bytes content reply : List ℕ) → Bytes bytes → gatewayLength ≤ length bytes → (a : gateway.After)
+    → GatewayOutcome (gatewayAt bytes) content reply a
     → GatewayUntouched bytes reply
-    (record { answer = packed (a .number) (a .length); bytes = gatewayKept bytes (a .number) (a .gateway); reply = a .reply })
+    (record { answer = packed (a .number) (a .length); bytes = gatewayKept bytes (a .gateway); reply = a .reply })
 unfolding GatewayUntouched
-gateway-untouched bytes content reply a (done e) h = absurd (h (omega arith))
-gateway-untouched bytes content reply a (declined n small e) h =
+gateway-untouched bytes content reply b room a (done e) h = absurd (h (omega arith))
+gateway-untouched bytes content reply b room a (declined n small e) h =
     subst (λ (a : gateway.After). Refused (packed (a .number) (a .length)) → (lengthIn (packed (a .number) (a .length)) ≡ 0)
-    × (gatewayKept bytes (a .number) (a .gateway) ≡ bytes) × (a .reply ≡ reply)) (sym e)
-    (λ h. (omega arith, stays n gatewayLength _ bytes (λ z. h (omega arith)), refl)) h
+    × (gatewayKept bytes (a .gateway) ≡ bytes) × (a .reply ≡ reply)) (sym e)
+    (λ h. (omega arith, gateway-back bytes b room, refl)) h
 
 -- the record, where a call is refused
 
@@ -228,18 +240,20 @@ unfolding deviceNewOf deviceReceiveOf deviceNextMessageOf deviceInstallFinishedO
     DeviceUntouched GatewayUntouched
 demand-1 =
     record {
-      device-new = λ bytes version. by-cases (Unkept bytes) (λ _ h. stays _ deviceLength _ bytes h) (λ _ h. refl);
-      device-receive = λ bytes image map reply supported pcp condition message.
+      device-new = λ bytes version. by-cases (Unkept bytes) (λ _ h. unmade _ _ bytes h) (λ _ h. refl);
+      device-receive = λ bytes image map reply supported pcp condition message b.
           by-cases (DeviceUntouched bytes image map reply)
-          (λ _. device-untouched bytes image map reply _ (device-outcome (deviceAt bytes) image map reply _ _ condition message))
+          (λ t. device-untouched bytes image map reply b (leb-true _ _ t) _ (device-outcome (deviceAt bytes) image map reply _ _ condition message))
           (λ _ h. (omega arith, refl, refl, refl, refl));
       device-next-message = λ bytes image map reply.
           by-cases (Unsaid toGateway reply) (λ _. device-ask-refused (deviceAt bytes) image map reply) (λ _ h. (omega arith, refl));
-      device-install-finished = λ bytes code. by-cases (Unkept bytes) (λ _ h. stays _ deviceLength _ bytes h) (λ _ h. refl);
-      gateway-start = λ bytes version size content checked. by-cases (Unkept bytes) (λ _ h. stays _ gatewayLength _ bytes h) (λ _ h. refl);
-      gateway-receive = λ bytes content reply supported pcp message.
+      device-install-finished = λ bytes code b.
+          by-cases (Unkept bytes)
+          (λ t h. ap (deviceKept bytes) (finished-returned (deviceAt bytes) code (λ z. h (omega arith))) ∙ device-back bytes b (leb-true _ _ t)) (λ _ h. refl);
+      gateway-start = λ bytes version size content checked. by-cases (Unkept bytes) (λ _ h. unmade _ _ bytes h) (λ _ h. refl);
+      gateway-receive = λ bytes content reply supported pcp message b.
           by-cases (GatewayUntouched bytes reply)
-          (λ _. gateway-untouched bytes content reply _ (gateway-outcome (gatewayAt bytes) content reply _ _ message))
+          (λ t. gateway-untouched bytes content reply b (leb-true _ _ t) _ (gateway-outcome (gatewayAt bytes) content reply _ _ message))
           (λ _ h. (omega arith, refl, refl));
       gateway-next-message = λ bytes content reply.
           by-cases (Unsaid toDevice reply) (λ _. gateway-ask-refused (gatewayAt bytes) content reply) (λ _ h. (omega arith, refl));

@@ -5,6 +5,7 @@ use mathlib.Core.Path.{_≡_}
 use mathlib.Core.Bool.{Bool}
 use mathlib.Core.List.{List}
 use lib.ListN.{length}
+use Rattle.basis.specs.Bytes.{Bytes}
 use Rattle.device_record.specs.declared.Device.{Device}
 use Rattle.device_record.specs.Record.{newOf}
 use Rattle.device.specs.declared.Finished.{Finished}
@@ -23,7 +24,8 @@ numberIn answer = answer % 256
 abbrev pub lengthIn : ℕ → ℕ
 lengthIn answer = answer / 256
 
--- ---- the project's demand 1, after 01's "Numbers returned": any number but 0 leaves every buffer as it was, and no reply
+-- ---- the project's demand 1, after 01's "Numbers returned": any number but 0 leaves every buffer as it was, and no reply. A record buffer
+-- holds bytes, as any memory does: the record that a refused call returns is put back as the bytes from which it was read
 
 abbrev pub Refused : ℕ → Type 0
 Refused answer = numberIn answer ≡ 0 → ⊥
@@ -31,17 +33,17 @@ Refused answer = numberIn answer ≡ 0 → ⊥
 pub record Demand1 : Type 0 where
   pub device-new : (bytes version : List ℕ) → let k : Left = deviceNewOf bytes version in
       Refused (k .answer) → k .bytes ≡ bytes
-  pub device-receive : (bytes image map reply : List ℕ) (supported pcp condition : ℕ) (message : List ℕ)
+  pub device-receive : (bytes image map reply : List ℕ) (supported pcp condition : ℕ) (message : List ℕ) → Bytes bytes
       → let g : DeviceGiven = deviceReceiveOf bytes image map reply supported pcp condition message in
       Refused (g .answer) → (lengthIn (g .answer) ≡ 0) × (g .bytes ≡ bytes) × (g .image ≡ image) × (g .map ≡ map) × (g .reply ≡ reply)
   pub device-next-message : (bytes image map reply : List ℕ) → let a : Asked = deviceNextMessageOf bytes image map reply in
       Refused (a .answer) → (lengthIn (a .answer) ≡ 0) × (a .reply ≡ reply)
-  pub device-install-finished : (bytes : List ℕ) (code : ℕ) → let k : Left = deviceInstallFinishedOf bytes code in
+  pub device-install-finished : (bytes : List ℕ) (code : ℕ) → Bytes bytes → let k : Left = deviceInstallFinishedOf bytes code in
       Refused (k .answer) → k .bytes ≡ bytes
   pub gateway-start : (bytes version : List ℕ) (size : ℕ) (content : List ℕ) (checked : ℕ)
       → let k : Left = gatewayStartOf bytes version size content checked in
       Refused (k .answer) → k .bytes ≡ bytes
-  pub gateway-receive : (bytes content reply : List ℕ) (supported pcp : ℕ) (message : List ℕ)
+  pub gateway-receive : (bytes content reply : List ℕ) (supported pcp : ℕ) (message : List ℕ) → Bytes bytes
       → let g : GatewayGiven = gatewayReceiveOf bytes content reply supported pcp message in
       Refused (g .answer) → (lengthIn (g .answer) ≡ 0) × (g .bytes ≡ bytes) × (g .reply ≡ reply)
   pub gateway-next-message : (bytes content reply : List ℕ) → let a : Asked = gatewayNextMessageOf bytes content reply in

@@ -6,7 +6,7 @@ use mathlib.Core.List.{List}
 use lib.Dec.{eqb, leb}
 use lib.ListN.{length, replicate}
 use Rattle.basis.specs.Choice.{pick}
-use Rattle.basis.specs.Numbers.{shortRecord}
+use Rattle.basis.specs.Numbers.{handled, shortRecord}
 use Rattle.basis.specs.Bytes.{part}
 use Rattle.codec.specs.Codec.{Sent}
 use Rattle.device_record.specs.declared.Device.{Device}
@@ -67,13 +67,16 @@ module _ (bytes : List ℕ) where
   deviceFits = leb deviceLength (length bytes)
 
   -- the record that the call left, in the place of the one that it was given
-  abbrev pub deviceKept : (number : ℕ) → Device → List ℕ
-  deviceKept number d = kept number deviceLength (deviceBytes d) bytes
+  abbrev pub deviceKept : Device → List ℕ
+  deviceKept d = kept deviceLength (deviceBytes d) bytes
 
+  -- a refused making leaves the buffer
   unfoldable pub deviceNewOf : (version : List ℕ) → Left
   deviceNewOf version =
       let m : Made = newOf (textOf version) in
-      pick deviceFits (record { answer = m .number; bytes = deviceKept (m .number) (m .device) }) (record { answer = shortRecord; bytes = bytes })
+      pick deviceFits
+      (record { answer = m .number; bytes = pick (eqb (m .number) handled) (deviceKept (m .device)) bytes })
+      (record { answer = shortRecord; bytes = bytes })
 
   unfoldable pub deviceReceiveOf : (image map reply : List ℕ) (supported pcp condition : ℕ) (message : List ℕ) → DeviceGiven
   deviceReceiveOf image map reply supported pcp condition message =
@@ -81,7 +84,7 @@ module _ (bytes : List ℕ) where
       pick deviceFits
       (record {
         answer = packed (a .number) (a .length);
-        bytes = deviceKept (a .number) (a .device);
+        bytes = deviceKept (a .device);
         image = a .image;
         map = a .map;
         reply = a .reply;
@@ -95,7 +98,7 @@ module _ (bytes : List ℕ) where
   unfoldable pub deviceInstallFinishedOf : (code : ℕ) → Left
   deviceInstallFinishedOf code =
       let f : Finished = device.installFinishedOf (deviceAt bytes) code in
-      pick deviceFits (record { answer = f .number; bytes = deviceKept (f .number) (f .device) }) (record { answer = shortRecord; bytes = bytes })
+      pick deviceFits (record { answer = f .number; bytes = deviceKept (f .device) }) (record { answer = shortRecord; bytes = bytes })
 
 -- ---- the gateway
 
@@ -104,19 +107,22 @@ module _ (bytes : List ℕ) where
   abbrev pub gatewayFits : Bool
   gatewayFits = leb gatewayLength (length bytes)
 
-  abbrev pub gatewayKept : (number : ℕ) → Gateway → List ℕ
-  gatewayKept number g = kept number gatewayLength (gatewayBytes g) bytes
+  abbrev pub gatewayKept : Gateway → List ℕ
+  gatewayKept g = kept gatewayLength (gatewayBytes g) bytes
 
+  -- a refused start leaves the buffer
   unfoldable pub gatewayStartOf : (version : List ℕ) (size : ℕ) (content : List ℕ) (checked : ℕ) → Left
   gatewayStartOf version size content checked =
       let s : Started = startOf (textOf version) size content (fact checked) in
-      pick gatewayFits (record { answer = s .number; bytes = gatewayKept (s .number) (s .gateway) }) (record { answer = shortRecord; bytes = bytes })
+      pick gatewayFits
+      (record { answer = s .number; bytes = pick (eqb (s .number) handled) (gatewayKept (s .gateway)) bytes })
+      (record { answer = shortRecord; bytes = bytes })
 
   unfoldable pub gatewayReceiveOf : (content reply : List ℕ) (supported pcp : ℕ) (message : List ℕ) → GatewayGiven
   gatewayReceiveOf content reply supported pcp message =
       let a : gateway.After = gateway.receiveOf (gatewayAt bytes) content reply (fact supported) (fact pcp) message in
       pick gatewayFits
-      (record { answer = packed (a .number) (a .length); bytes = gatewayKept (a .number) (a .gateway); reply = a .reply })
+      (record { answer = packed (a .number) (a .length); bytes = gatewayKept (a .gateway); reply = a .reply })
       (record { answer = shortRecord; bytes = bytes; reply = reply })
 
   unfoldable pub gatewayNextMessageOf : (content reply : List ℕ) → Asked

@@ -1,6 +1,7 @@
 // The device's calls. `bytes` is the buffer in which the host keeps the record.
 use crate::answers::packed;
 use crate::answers::text_of;
+use basis::number::HANDLED;
 use basis::number::SHORT_RECORD;
 use device::Device;
 ghost use mathlib.Core.Path.{_≡_};
@@ -15,7 +16,10 @@ pub extern "C" fn pcp_raw_device_new(bytes: &mut [u8], version: &[u8]) -> u8
         return SHORT_RECORD;
     }
     let made = Device::new(text_of(version));
-    layout::keep_device(bytes, made.number, made.device);
+    if made.number != HANDLED {
+        return made.number;
+    }
+    layout::keep_device(bytes, made.device);
     made.number
 }
 
@@ -48,7 +52,7 @@ pub extern "C" fn pcp_raw_device_receive(
         map,
         reply,
     );
-    layout::keep_device(bytes, answer.number, answer.device);
+    layout::keep_device(bytes, answer.device);
     packed(answer.number, answer.length)
 }
 
@@ -80,6 +84,6 @@ pub extern "C" fn pcp_raw_device_install_finished(bytes: &mut [u8], code: u8) ->
         return SHORT_RECORD;
     }
     let finished = device::install_finished(layout::device_at(bytes), code);
-    layout::keep_device(bytes, finished.number, finished.device);
+    layout::keep_device(bytes, finished.device);
     finished.number
 }

@@ -2,6 +2,7 @@
 // package.
 use crate::answers::packed;
 use crate::answers::text_of;
+use basis::number::HANDLED;
 use basis::number::SHORT_RECORD;
 use gateway::Gateway;
 ghost use mathlib.Core.Path.{_≡_};
@@ -23,7 +24,10 @@ pub extern "C" fn pcp_raw_gateway_start(
         return SHORT_RECORD;
     }
     let started = Gateway::start(text_of(version), size, content, checked != 0);
-    layout::keep_gateway(bytes, started.number, started.gateway);
+    if started.number != HANDLED {
+        return started.number;
+    }
+    layout::keep_gateway(bytes, started.gateway);
     started.number
 }
 
@@ -45,7 +49,7 @@ pub extern "C" fn pcp_raw_gateway_receive(
     }
     let gateway = layout::gateway_at(bytes);
     let answer = gateway::receive(gateway, supported != 0, pcp != 0, message, content, reply);
-    layout::keep_gateway(bytes, answer.number, answer.gateway);
+    layout::keep_gateway(bytes, answer.gateway);
     packed(answer.number, answer.length)
 }
 

@@ -1,15 +1,12 @@
--- `layout::keep_device` meets its contract: written where the number is 0 and there is room, else left. Assumes nothing.
-use Rattle.layout.proofs.Layouts.{kept-refused, kept-short, kept-new}
+-- `layout::keep_device` meets its contract: written where there is room, else left. Assumes nothing.
+use Rattle.layout.proofs.Layouts.{kept-short, kept-new}
 use mathlib.Core.Path.{sym, _∙_}
 use borrow.Author.Needs.{needs}
 use Rattle.layout.proofs.keep_device.Statement.{statement}
 use Rattle.layout.proofs.keep_device.Tie as tie
 
 returns : tie.Need-returns
-returns c = sym (kept-refused _ _ _ _ (c .if1 .taken))
-
-returns-2 : tie.Need-returns-2
-returns-2 c = sym (kept-short _ _ _ _ (c .before .if1 .left) (c .if2 .taken))
+returns c = sym (kept-short _ _ _ (c .if1 .taken))
 
 put-device-requires : tie.Need-put-device-requires
 put-device-requires c κs = search needs
@@ -17,9 +14,8 @@ put-device-requires c κs = search needs
 same-length : tie.Need-same-length
 same-length c = search needs
 
-returns-3 : tie.Need-returns-3
-returns-3 c = c .before .before .put-device .ensures ∙ sym (kept-new _ _ _ _ (c .before .before .before .before .before .if1 .left)
-    (c .before .before .before .before .if2 .left))
+returns-2 : tie.Need-returns-2
+returns-2 c = c .before .before .put-device .ensures ∙ sym (kept-new _ _ _ (c .before .before .before .before .if1 .left))
 
 pub keep-device-spec : {M : Type 1} → statement M
-keep-device-spec = tie.close (tie.spec returns returns-2 put-device-requires same-length returns-3)
+keep-device-spec = tie.close (tie.spec returns put-device-requires same-length returns-2)
