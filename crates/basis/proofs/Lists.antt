@@ -139,7 +139,20 @@ take-least xs k at e = go (decLe (length xs) k)
         let p : at ≡ k = omega arith in
         rw p
 
+-- the part as `part_of` lends it: start and count are stopped at the end
+pub stretched : (xs : List ℕ) (start count from n : ℕ) → from ≡ min start (length xs) → n ≡ min count (length xs - from)
+    → take (from + n - from) (drop from xs) ≡ take count (drop start xs)
+stretched xs start count from n p q =
+    let l : from + n - from ≡ min (length (drop start xs)) count = simp length-drop (omega arith) in
+    rw (drop-least xs start from (omega arith)) (take-least (drop start xs) count (from + n - from) l)
+
 -- ---- WORDs
+
+-- past the end
+pub word-none : (xs : List ℕ) (at : ℕ) → length xs ≤ at → wordAt xs at ≡ 0
+word-none xs at h =
+    let k : length xs ≤ at + 1 = omega arith in
+    rw (List·getD-eq-default xs 0 {n = at} h, List·getD-eq-default xs 0 {n = at + 1} k)
 
 module _ (xs : List ℕ) (at : ℕ) (h : Bytes xs) where
   pub word-high : wordAt xs at / 256 ≡ getD xs at 0

@@ -1,13 +1,15 @@
-// What the crates above share: choice by a test, refusals in order, least and product, bytes and
-// WORDs at a place of a slice, membership, the one way in which a buffer is written,
-// and the numbers that calls answer with.
+// What the crates above share: choice by a test, refusals in order, least and product, bytes, WORDs
+// and parts of a slice, membership, the one way in which a buffer is written, and the numbers that
+// calls answer with.
 pub mod number;
 
 ghost use mathlib.Core.Path.{_≡_};
+ghost use mathlib.Core.List.{_++_};
 ghost use Prim.Native.Nat.{_+_, _*_, _≤_, min};
 ghost use lib.ListN.{length, getD};
-ghost use Rattle.basis.specs.Bytes.{wordAt, patched};
+ghost use Rattle.basis.specs.Bytes.{wordAt, wordBytes, patched};
 ghost use Rattle.basis.specs.Choice.{pick, oneOf};
+ghost use Rattle.basis.specs.Stretch.{Stretch};
 
 // The first where the test holds, else the second.
 pub fn pick(test: bool, yes: u8, no: u8) -> u8
@@ -54,6 +56,33 @@ pub fn word_at(bytes: &[u8], at: usize) -> u16
     let high = byte_at(bytes, at) as u16;
     let low = byte_at(bytes, at + 1) as u16;
     high * 256 + low
+}
+
+// The bytes of a WORD, high byte first.
+pub fn word_bytes(word: u16) -> [u8; 2]
+    ensures { λ r. ⌜ r ≡ wordBytes word ⌝ }
+{
+    [(word / 256) as u8, (word % 256) as u8]
+}
+
+// Three WORDs, one behind the other.
+pub fn words_of(a: u16, b: u16, c: u16) -> [u8; 6]
+    ensures { λ r. ⌜ r ≡ wordBytes a ++ (wordBytes b ++ wordBytes c) ⌝ }
+{
+    let first = word_bytes(a);
+    let second = word_bytes(b);
+    let third = word_bytes(c);
+    [first[0], first[1], second[0], second[1], third[0], third[1]]
+}
+
+// The part of a slice from a place on, so many bytes of it or as many as there are: the part itself,
+// not a copy.
+pub fn part_of<'a>(whole: &'a [u8], start: usize, count: usize) -> &'a [u8]
+    ensures { λ r. ⌜ Stretch r (whole .entry) start count ⌝ }
+{
+    let from = least(start, whole.len());
+    let n = least(count, whole.len() - from);
+    &whole[from..from + n]
 }
 
 // Writes src into the buffer from a place on. The buffer has room for it.

@@ -7,3 +7,4 @@ pub mod Places
 pub mod Laying
 pub mod Reading
 pub mod Writing
+pub mod Speaking

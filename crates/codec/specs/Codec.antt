@@ -54,3 +54,8 @@ module _ (t : Table) where
   unfoldable pub said : Reading (t .Message) → List ℕ → Sent
   said (found m) buffer = record { number = 0; length = length (bytesOf m); buffer = over (bytesOf m) buffer }
   said (refused n) buffer = unsent n buffer
+
+  -- a message into a buffer as a writer puts it there, or the number why there is none
+  unfoldable pub spoken : Reading (t .Message) → List ℕ → Sent
+  spoken (found m) buffer = writeOf (found m) buffer
+  spoken (refused n) buffer = unsent n buffer

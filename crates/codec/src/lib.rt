@@ -8,10 +8,13 @@ pub use read::fragment_data;
 pub use read::read_to_device;
 pub use read::read_to_gateway;
 pub use read::version_place;
+pub use write::say_to_device;
+pub use write::say_to_gateway;
 pub use write::write_to_device;
 pub use write::write_to_gateway;
 
-// What a writer answers: 0 and the length of the message, or the number of the refusal and 0.
+// What a writer answers, and what an ask for the next message: 0 and the length of the message at the
+// front of the buffer, or the number why there is none and 0.
 pub struct Written {
     pub number: u8,
     pub length: usize,

@@ -14,7 +14,7 @@ ghost use Prim.Native.Nat.{_+_, _≤_, _<_};
 ghost use lib.ListN.{length, take};
 ghost use Rattle.basis.specs.Bytes.{wordBytes, over, patched};
 ghost use Rattle.message.specs.Messages.{toDevice, toGateway};
-ghost use Rattle.codec.specs.Codec.{sealed, frame, writeOf};
+ghost use Rattle.codec.specs.Codec.{sealed, frame, writeOf, spoken};
 ghost use Rattle.message.specs.Coded.{deviceMessage, gatewayMessage};
 ghost use Rattle.codec.specs.Coded.{sent};
 ghost use Rattle.codec.specs.Parts.{lengthOf, assembled, Within, Framed};
@@ -133,4 +133,29 @@ pub fn write_to_gateway(message: ToGateway, version: [u8; 16], out: &mut [u8]) -
     let none = [0u8; 0];
     let length = write_parts(parts, version, &none, out);
     Written { number: 0, length }
+}
+
+// A message toward the device, or the number why there is none.
+pub fn say_to_device(
+    message: ToDevice,
+    version: [u8; 16],
+    content: &[u8],
+    out: &mut [u8],
+) -> Written
+    ensures { λ r. ⌜ sent r (now (out .exit)) ≡ spoken toDevice (deviceMessage message version (now (content .entry))) (now (out .entry)) ⌝ }
+{
+    if let ToDevice::Refused(number) = message {
+        return Written { number, length: 0 };
+    }
+    write_to_device(message, version, content, out)
+}
+
+// A message toward the gateway, or the number why there is none.
+pub fn say_to_gateway(message: ToGateway, version: [u8; 16], out: &mut [u8]) -> Written
+    ensures { λ r. ⌜ sent r (now (out .exit)) ≡ spoken toGateway (gatewayMessage message version) (now (out .entry)) ⌝ }
+{
+    if let ToGateway::Refused(number) = message {
+        return Written { number, length: 0 };
+    }
+    write_to_gateway(message, version, out)
 }

@@ -1,4 +1,5 @@
 pub mod Texts
 pub mod Allowed
 pub mod Tables
+pub mod FieldBytes
 pub mod Cases

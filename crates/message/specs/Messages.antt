@@ -1,5 +1,5 @@
 -- The twelve messages: 01's table under "Recognising a message", a column for each receiver. Assumes nothing.
-use Prim.Native.Nat.{ℕ}
+use Prim.Native.Nat.{ℕ, _+_}
 use mathlib.Core.Bool.{Bool, true, _&&_}
 use mathlib.Core.List.{List, [], _∷_, _++_}
 use lib.Dec.{eqb, leb}
@@ -9,6 +9,16 @@ use Rattle.basis.specs.Bytes.{wordAt, wordBytes, part}
 use Rattle.message.specs.Limits.{sizeMax, sizeOk, totalOk, isWord, deviceRoom, gatewayRoom}
 use Rattle.message.specs.Version.{goodVersion}
 use Rattle.message.specs.declared.Fields.{Fields}
+
+-- ---- the four fields of a package: version, size, total, check code
+
+-- one behind the other, 22 bytes, as the announcement and the records hold them
+abbrev pub fieldsBytes : Fields → List ℕ
+fieldsBytes f = f .version ++ (wordBytes (f .size) ++ (wordBytes (f .total) ++ wordBytes (f .code)))
+
+-- those that stand at a place; a byte that is not there counts as 0
+abbrev pub fieldsAt : List ℕ → ℕ → Fields
+fieldsAt xs at = record { version = part xs at 16; size = wordAt xs (at + 16); total = wordAt xs (at + 18); code = wordAt xs (at + 20) }
 
 -- ---- toward the device ("to head")
 
@@ -31,7 +41,7 @@ deviceCode (resultReply result) = 24
 -- the data of a message
 unfoldable pub deviceData : DeviceMessage → List ℕ
 deviceData query = []
-deviceData (announce f) = f .version ++ (wordBytes (f .size) ++ (wordBytes (f .total) ++ wordBytes (f .code)))
+deviceData (announce f) = fieldsBytes f
 deviceData (fragment result index bytes) = result ∷ (wordBytes index ++ bytes)
 deviceData (downloadReply result) = result ∷ []
 deviceData execute = []
@@ -55,7 +65,7 @@ deviceValid (resultReply result) = oneOf result (0x00 ∷ 0x80 ∷ [])
 unfoldable pub deviceFields : (code : ℕ) → List ℕ → DeviceMessage
 deviceFields code d =
     pick (eqb code 19) query
-    (pick (eqb code 20) (announce (record { version = part d 0 16; size = wordAt d 16; total = wordAt d 18; code = wordAt d 20 }))
+    (pick (eqb code 20) (announce (fieldsAt d 0))
     (pick (eqb code 21) (fragment (getD d 0 0) (wordAt d 1) (drop 3 d))
     (pick (eqb code 22) (downloadReply (getD d 0 0))
     (pick (eqb code 23) execute

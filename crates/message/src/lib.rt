@@ -1,9 +1,12 @@
 // PCP messages: recognition, version text, and the twelve messages with what 01's table allows in them
 // (01, "Recognising a message").
+mod announcement;
 mod ranges;
 mod recognition;
 mod version;
 
+pub use announcement::fields_at;
+pub use announcement::put_fields;
 pub use ranges::device_valid;
 pub use ranges::gateway_valid;
 pub use ranges::install_code;
@@ -21,6 +24,11 @@ pub struct Fields {
 }
 
 impl Fields {
+    // The bytes of a version text, and of the four fields one behind the other.
+    pub const VERSION_LENGTH: usize = 16;
+
+    pub const LENGTH: usize = Fields::VERSION_LENGTH + 6;
+
     // The limits of the size of a fragment, and of the number of fragments.
     pub const SIZE_MIN: u16 = 32;
 

@@ -31,21 +31,21 @@ pub fn install_code(result: u8) -> bool
 }
 
 // The results of the other answers and reports toward the gateway.
-fn announce_result(result: u8) -> bool
+fn announce_reply_ok(result: u8) -> bool
     ensures { λ r. ⌜ r ≡ gatewayValid (GatewayMessage.announceReply result) ⌝ }
 {
     let codes = [0x00u8, 0x01, 0x02, 0x03, 0x04, 0x05, 0x09, 0x7F];
     basis::one_of(result, &codes)
 }
 
-fn download_result(result: u8) -> bool
+fn download_report_ok(result: u8) -> bool
     ensures { λ r. ⌜ r ≡ gatewayValid (GatewayMessage.downloadReport result) ⌝ }
 {
     let codes = [0x00u8, 0x05, 0x06, 0x07, 0x08];
     basis::one_of(result, &codes)
 }
 
-fn execute_result(result: u8) -> bool
+fn execute_reply_ok(result: u8) -> bool
     ensures { λ r. ⌜ r ≡ gatewayValid (GatewayMessage.executeReply result) ⌝ }
 {
     let codes = [0x00u8, 0x01, 0x04, 0x05, 0x09];
@@ -53,7 +53,7 @@ fn execute_result(result: u8) -> bool
 }
 
 // What the gateway answers to a report.
-fn reply_result(result: u8) -> bool
+fn report_reply_ok(result: u8) -> bool
     ensures { λ r. ⌜ r ≡ deviceValid (DeviceMessage.downloadReply result) ⌝ }
 {
     let codes = [0x00u8, 0x80];
@@ -84,9 +84,9 @@ pub fn device_valid(message: ToDevice, version: [u8; 16], content: &[u8]) -> boo
             code: _,
         } => good_version(version) & (size_ok(size) & total_ok(total)),
         ToDevice::Fragment { result, index: _ } => fragment_ok(result, content),
-        ToDevice::DownloadReply(result) => reply_result(result),
+        ToDevice::DownloadReply(result) => report_reply_ok(result),
         ToDevice::Execute => true,
-        ToDevice::ResultReply(result) => reply_result(result),
+        ToDevice::ResultReply(result) => report_reply_ok(result),
     }
 }
 
@@ -97,10 +97,10 @@ pub fn gateway_valid(message: ToGateway, version: [u8; 16]) -> bool
     match message {
         ToGateway::Refused(_) => false,
         ToGateway::QueryReply(result) => (result == 0x00) & good_version(version),
-        ToGateway::AnnounceReply(result) => announce_result(result),
+        ToGateway::AnnounceReply(result) => announce_reply_ok(result),
         ToGateway::FragmentRequest(_) => good_version(version),
-        ToGateway::DownloadReport(result) => download_result(result),
-        ToGateway::ExecuteReply(result) => execute_result(result),
+        ToGateway::DownloadReport(result) => download_report_ok(result),
+        ToGateway::ExecuteReply(result) => execute_reply_ok(result),
         ToGateway::ResultReport(result) => install_code(result) & good_version(version),
     }
 }

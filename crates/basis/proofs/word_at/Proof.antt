@@ -1,21 +1,12 @@
 -- `basis::word_at` meets its contract. Assumes nothing.
 use borrow.Author.Needs.{needs}
-use Prim.Native.Nat.{ℕ, _+_, _≤_}
-use native.Mathlib.Omega.{arith}
-use mathlib.Core.Path.{_≡_, sym}
-use mathlib.Core.List.{List}
-use lib.ListN.{length, List·getD-eq-default}
-use Rattle.basis.specs.Bytes.{wordAt}
+use mathlib.Core.Path.{sym}
+use Rattle.basis.proofs.Lists.{word-none}
 use Rattle.basis.proofs.word_at.Statement.{statement}
 use Rattle.basis.proofs.word_at.Tie as tie
 
-none : (xs : List ℕ) (at : ℕ) → length xs ≤ at → wordAt xs at ≡ 0
-none xs at h =
-    let k : length xs ≤ at + 1 = omega arith in
-    rw (List·getD-eq-default xs 0 {n = at} h, List·getD-eq-default xs 0 {n = at + 1} k)
-
 returns : tie.Need-returns
-returns c = sym (none (c .before .before .args .bytes .now) _ (c .if1 .taken))
+returns c = sym (word-none (c .before .before .args .bytes .now) _ (c .if1 .taken))
 
 byte-at-requires : tie.Need-byte-at-requires
 byte-at-requires c κs = search needs

@@ -34,8 +34,8 @@ fragment-ok-requires c κs = search needs
 enum-known-message-3 : tie.Need-enum-known-message-3
 enum-known-message-3 c = search needs
 
-reply-result-requires : tie.Need-reply-result-requires
-reply-result-requires c κs = search needs
+report-reply-ok-requires : tie.Need-report-reply-ok-requires
+report-reply-ok-requires c κs = search needs
 
 enum-told-3 : tie.Need-enum-told-3
 enum-told-3 c = search needs
@@ -43,8 +43,8 @@ enum-told-3 c = search needs
 enum-known-message-4 : tie.Need-enum-known-message-4
 enum-known-message-4 c = search needs
 
-reply-result-requires-2 : tie.Need-reply-result-requires-2
-reply-result-requires-2 c κs = search needs
+report-reply-ok-requires-2 : tie.Need-report-reply-ok-requires-2
+report-reply-ok-requires-2 c κs = search needs
 
 returns : tie.Need-returns
 returns c = search needs
@@ -61,7 +61,7 @@ returns-4 : tie.Need-returns-4
 returns-4 c = rw (c .before .before .message2 .given .1) (fragment-allowed _ _ _ _ (c .fragment-ok .ensures) (omega arith))
 
 returns-5 : tie.Need-returns-5
-returns-5 c = rw (c .before .before .message3 .given .1) (c .reply-result .ensures)
+returns-5 c = rw (c .before .before .message3 .given .1) (c .report-reply-ok .ensures)
 
 returns-6 : tie.Need-returns-6
 unfolding deviceValid
@@ -69,7 +69,7 @@ returns-6 c = rw (c .enum-told3 .given .1)
 
 returns-7 : tie.Need-returns-7
 unfolding deviceValid
-returns-7 c = rw (c .before .before .message4 .given .1) (c .reply-result2 .ensures)
+returns-7 c = rw (c .before .before .message4 .given .1) (c .report-reply-ok2 .ensures)
 
 pub device-valid-spec : {M : Type 1} → statement M
 device-valid-spec =
@@ -84,10 +84,10 @@ device-valid-spec =
     enum-known-message-2
     fragment-ok-requires
     enum-known-message-3
-    reply-result-requires
+    report-reply-ok-requires
     enum-told-3
     enum-known-message-4
-    reply-result-requires-2
+    report-reply-ok-requires-2
     returns
     returns-2
     returns-3

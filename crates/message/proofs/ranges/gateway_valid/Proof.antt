@@ -19,8 +19,8 @@ good-version-requires c κs = search needs
 enum-known-message-2 : tie.Need-enum-known-message-2
 enum-known-message-2 c = search needs
 
-announce-result-requires : tie.Need-announce-result-requires
-announce-result-requires c κs = search needs
+announce-reply-ok-requires : tie.Need-announce-reply-ok-requires
+announce-reply-ok-requires c κs = search needs
 
 enum-told-2 : tie.Need-enum-told-2
 enum-told-2 c = search needs
@@ -31,14 +31,14 @@ good-version-requires-2 c κs = search needs
 enum-known-message-3 : tie.Need-enum-known-message-3
 enum-known-message-3 c = search needs
 
-download-result-requires : tie.Need-download-result-requires
-download-result-requires c κs = search needs
+download-report-ok-requires : tie.Need-download-report-ok-requires
+download-report-ok-requires c κs = search needs
 
 enum-known-message-4 : tie.Need-enum-known-message-4
 enum-known-message-4 c = search needs
 
-execute-result-requires : tie.Need-execute-result-requires
-execute-result-requires c κs = search needs
+execute-reply-ok-requires : tie.Need-execute-reply-ok-requires
+execute-reply-ok-requires c κs = search needs
 
 enum-known-message-5 : tie.Need-enum-known-message-5
 enum-known-message-5 c = search needs
@@ -56,17 +56,17 @@ returns-2 : tie.Need-returns-2
 returns-2 c = rw (c .before .before .message .given .1) (query-allowed _ _ _ (c .good-version .ensures))
 
 returns-3 : tie.Need-returns-3
-returns-3 c = rw (c .before .before .message2 .given .1) (c .announce-result .ensures)
+returns-3 c = rw (c .before .before .message2 .given .1) (c .announce-reply-ok .ensures)
 
 returns-4 : tie.Need-returns-4
 returns-4 c = rw (c .before .enum-told2 .given .1) (request-allowed _ _ _ (c .good-version2 .ensures)
     (omega (arith, rw (c .before .enum-told2 .given .1) at (c .before .before .before .good .0))))
 
 returns-5 : tie.Need-returns-5
-returns-5 c = rw (c .before .before .message3 .given .1) (c .download-result .ensures)
+returns-5 c = rw (c .before .before .message3 .given .1) (c .download-report-ok .ensures)
 
 returns-6 : tie.Need-returns-6
-returns-6 c = rw (c .before .before .message4 .given .1) (c .execute-result .ensures)
+returns-6 c = rw (c .before .before .message4 .given .1) (c .execute-reply-ok .ensures)
 
 returns-7 : tie.Need-returns-7
 unfolding gatewayValid
@@ -80,13 +80,13 @@ gateway-valid-spec =
     enum-known-message
     good-version-requires
     enum-known-message-2
-    announce-result-requires
+    announce-reply-ok-requires
     enum-told-2
     good-version-requires-2
     enum-known-message-3
-    download-result-requires
+    download-report-ok-requires
     enum-known-message-4
-    execute-result-requires
+    execute-reply-ok-requires
     enum-known-message-5
     install-code-requires
     good-version-requires-3

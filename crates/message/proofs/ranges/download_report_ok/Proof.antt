@@ -1,0 +1,18 @@
+-- `message::ranges::download_report_ok` meets its contract: one of the list of 01. Assumes nothing.
+use Rattle.message.specs.Messages.{gatewayValid}
+use borrow.Author.Needs.{needs}
+use Rattle.message.proofs.ranges.download_report_ok.Statement.{statement}
+use Rattle.message.proofs.ranges.download_report_ok.Tie as tie
+
+slice-aggregate-one-of : tie.Need-slice-aggregate-one-of
+slice-aggregate-one-of c = search needs
+
+one-of-requires : tie.Need-one-of-requires
+one-of-requires c κs = search needs
+
+returns : tie.Need-returns
+unfolding gatewayValid
+returns c = c .one-of .ensures
+
+pub download-report-ok-spec : {M : Type 1} → statement M
+download-report-ok-spec = tie.close (tie.spec slice-aggregate-one-of one-of-requires returns)
