@@ -9,7 +9,8 @@ use borrow.Author.Tests.{ne-eqb}
 use Rattle.basis.specs.Choice.{pick}
 use Rattle.basis.specs.Bytes.{wordAt, part}
 use Rattle.basis.proofs.Lists.{part-drop}
-use Rattle.message.specs.Messages.{DeviceMessage, deviceFields, GatewayMessage, gatewayFields}
+use Rattle.message.specs.declared.Fields.{Fields}
+use Rattle.message.specs.Messages.{fieldsAt, DeviceMessage, deviceFields, GatewayMessage, gatewayFields}
 
 -- the code is none of those before the last, as the code's `match` has it
 abbrev pub Other : ℕ → Type 0
@@ -22,10 +23,10 @@ module _ (m : List ℕ) (code : ℕ) (e : code ≡ getD m 3 0) where
   unfolding deviceFields pick
   device-query k = rw (← e, k)
 
-  pub device-announce : (size total check : ℕ) → code ≡ 20 → size ≡ wordAt m 24 → total ≡ wordAt m 26 → check ≡ wordAt m 28
-      → DeviceMessage.announce (record { version = part m 8 16; size = size; total = total; code = check }) ≡ deviceFields (getD m 3 0) (drop 8 m)
+  pub device-announce : (f : Fields) → code ≡ 20 → f ≡ fieldsAt m 8
+      → DeviceMessage.announce (record { version = part m 8 16; size = f .size; total = f .total; code = f .code }) ≡ deviceFields (getD m 3 0) (drop 8 m)
   unfolding deviceFields pick
-  device-announce size total check k p q r = rw (← e, k, p, q, r) (simp (part-drop, getD-drop))
+  device-announce f k p = rw (← e, k, p) (simp (part-drop, getD-drop))
 
   pub device-fragment : (result index : ℕ) → code ≡ 21 → result ≡ getD m 8 0 → index ≡ wordAt m 9
       → DeviceMessage.fragment result index (drop 11 m) ≡ deviceFields (getD m 3 0) (drop 8 m)

@@ -23,20 +23,6 @@ pub(crate) struct Parts {
     pub data_len: usize,
 }
 
-// Three WORDs, high bytes first.
-fn words_of(a: u16, b: u16, c: u16) -> [u8; 6]
-    ensures { λ r. ⌜ r ≡ wordBytes a ++ (wordBytes b ++ wordBytes c) ⌝ }
-{
-    [
-        (a / 256) as u8,
-        (a % 256) as u8,
-        (b / 256) as u8,
-        (b % 256) as u8,
-        (c / 256) as u8,
-        (c % 256) as u8,
-    ]
-}
-
 impl Parts {
     // A message with no data.
     fn new(code: u8) -> Self
@@ -71,7 +57,7 @@ impl Parts {
     fn with_word(mut self, a: u16) -> Self
         ensures { λ r. ⌜ r ≡ withWords self (wordBytes a ++ (wordBytes 0 ++ wordBytes 0)) 2 ⌝ }
     {
-        let words = words_of(a, 0, 0);
+        let words = basis::words_of(a, 0, 0);
         self.words = words;
         self.words_len = 2;
         self
@@ -80,7 +66,7 @@ impl Parts {
     fn with_words(mut self, a: u16, b: u16, c: u16) -> Self
         ensures { λ r. ⌜ r ≡ withWords self (wordBytes a ++ (wordBytes b ++ wordBytes c)) 6 ⌝ }
     {
-        let words = words_of(a, b, c);
+        let words = basis::words_of(a, b, c);
         self.words = words;
         self.words_len = 6;
         self

@@ -3,6 +3,7 @@ use crate::parts::data_len;
 use crate::parts::device_parts;
 use crate::parts::gateway_parts;
 use basis::number::BAD_DATA;
+use message::Fields;
 use message::ToDevice;
 use message::ToGateway;
 ghost use mathlib.Core.Path.{_≡_};
@@ -13,11 +14,18 @@ ghost use Rattle.codec.specs.Codec.{readOf};
 ghost use Rattle.message.specs.Coded.{deviceMessage, gatewayMessage};
 ghost use Rattle.codec.specs.Coded.{versionPlace};
 
+// Where the data of a message begins, what stands behind a result or a version text there, and the
+// data of a fragment behind its result and index.
+const DATA: usize = 8;
+const BEHIND_RESULT: usize = DATA + 1;
+const BEHIND_VERSION: usize = DATA + Fields::VERSION_LENGTH;
+const FRAGMENT_DATA: usize = BEHIND_RESULT + 2;
+
 // The data of a fragment, behind its result and index.
 pub fn fragment_data(message: &[u8]) -> &[u8]
     ensures { λ r. ⌜ now r ≡ drop 11 (now (message .entry)) ⌝ }
 {
-    let at = basis::least(message.len(), 11);
+    let at = basis::least(message.len(), FRAGMENT_DATA);
     &message[at..]
 }
 
@@ -27,13 +35,13 @@ pub fn version_place(message: ToGateway) -> usize
     ensures { λ r. ⌜ r ≡ versionPlace message ⌝ }
 {
     match message {
-        ToGateway::Refused(_) => 8,
-        ToGateway::QueryReply(_) => 9,
-        ToGateway::AnnounceReply(_) => 8,
-        ToGateway::FragmentRequest(_) => 8,
-        ToGateway::DownloadReport(_) => 8,
-        ToGateway::ExecuteReply(_) => 8,
-        ToGateway::ResultReport(_) => 9,
+        ToGateway::Refused(_) => DATA,
+        ToGateway::QueryReply(_) => BEHIND_RESULT,
+        ToGateway::AnnounceReply(_) => DATA,
+        ToGateway::FragmentRequest(_) => DATA,
+        ToGateway::DownloadReport(_) => DATA,
+        ToGateway::ExecuteReply(_) => DATA,
+        ToGateway::ResultReport(_) => BEHIND_RESULT,
     }
 }
 
@@ -43,17 +51,20 @@ fn device_candidate(message: &[u8]) -> ToDevice
         ≡ found (deviceFields (getD (now (message .entry)) 3 0) (drop 8 (now (message .entry)))) ⌝ }
 {
     let code = basis::byte_at(message, 3);
-    let result = basis::byte_at(message, 8);
+    let result = basis::byte_at(message, DATA);
     match code {
         19 => ToDevice::Query,
-        20 => ToDevice::Announce {
-            size: basis::word_at(message, 24),
-            total: basis::word_at(message, 26),
-            code: basis::word_at(message, 28),
-        },
+        20 => {
+            let fields = message::fields_at(message, DATA);
+            ToDevice::Announce {
+                size: fields.size,
+                total: fields.total,
+                code: fields.code,
+            }
+        }
         21 => ToDevice::Fragment {
             result,
-            index: basis::word_at(message, 9),
+            index: basis::word_at(message, BEHIND_RESULT),
         },
         22 => ToDevice::DownloadReply(result),
         23 => ToDevice::Execute,
@@ -66,11 +77,11 @@ fn gateway_candidate(message: &[u8]) -> ToGateway
         ≡ found (gatewayFields (getD (now (message .entry)) 3 0) (drop 8 (now (message .entry)))) ⌝ }
 {
     let code = basis::byte_at(message, 3);
-    let result = basis::byte_at(message, 8);
+    let result = basis::byte_at(message, DATA);
     match code {
         19 => ToGateway::QueryReply(result),
         20 => ToGateway::AnnounceReply(result),
-        21 => ToGateway::FragmentRequest(basis::word_at(message, 24)),
+        21 => ToGateway::FragmentRequest(basis::word_at(message, BEHIND_VERSION)),
         22 => ToGateway::DownloadReport(result),
         23 => ToGateway::ExecuteReply(result),
         _ => ToGateway::ResultReport(result),
@@ -87,10 +98,10 @@ pub fn read_to_device(supported: bool, pcp: bool, message: &[u8]) -> ToDevice
         return ToDevice::Refused(number);
     }
     let read = device_candidate(message);
-    let version = message::version_at(message, 8);
+    let version = message::version_at(message, DATA);
     let content = fragment_data(message);
     let len = data_len(device_parts(read, content.len()));
-    if message::device_valid(read, version, content) & (8 + len == message.len()) {
+    if message::device_valid(read, version, content) & (DATA + len == message.len()) {
         read
     } else {
         ToDevice::Refused(BAD_DATA)
@@ -108,7 +119,7 @@ pub fn read_to_gateway(supported: bool, pcp: bool, message: &[u8]) -> ToGateway
     let read = gateway_candidate(message);
     let version = message::version_at(message, version_place(read));
     let len = data_len(gateway_parts(read));
-    if message::gateway_valid(read, version) & (8 + len == message.len()) {
+    if message::gateway_valid(read, version) & (DATA + len == message.len()) {
         read
     } else {
         ToGateway::Refused(BAD_DATA)

@@ -24,16 +24,8 @@ fn put_header(out: &mut [u8], code: u8, len: usize)
     requires { ⌜ (8 ≤ length (now out)) × (len < 65536) ⌝ }
     ensures { λ _. ⌜ now (out .exit) ≡ over (0xFF ∷ 0xFE ∷ 0x01 ∷ code ∷ 0 ∷ 0 ∷ wordBytes len) (now (out .entry)) ⌝ }
 {
-    let header = [
-        0xFF,
-        0xFE,
-        0x01,
-        code,
-        0,
-        0,
-        (len / 256) as u8,
-        (len % 256) as u8,
-    ];
+    let length = basis::word_bytes(len as u16);
+    let header = [0xFF, 0xFE, 0x01, code, 0, 0, length[0], length[1]];
     basis::put(out, 0, &header);
 }
 
@@ -66,9 +58,9 @@ fn seal(out: &mut [u8], n: usize)
     requires { ⌜ (8 ≤ n) × (n ≤ length (now out)) ⌝ }
     ensures { λ _. ⌜ now (out .exit) ≡ over (sealed (take n (now (out .entry)))) (now (out .entry)) ⌝ }
 {
-    let check = checksum::message_check(&out[0..n]);
-    out[4] = (check / 256) as u8;
-    out[5] = (check % 256) as u8;
+    let check = basis::word_bytes(checksum::message_check(&out[0..n]));
+    out[4] = check[0];
+    out[5] = check[1];
 }
 
 // A message from its parts, at the front of the buffer, which has room for it.
