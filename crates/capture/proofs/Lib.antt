@@ -1,4 +1,3 @@
-pub mod Parts
 pub mod Steps
 pub mod Records
 pub mod Held

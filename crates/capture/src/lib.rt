@@ -7,7 +7,7 @@ use basis::number::CUT_SHORT;
 ghost use mathlib.Core.Path.{_≡_};
 ghost use Rattle.capture.specs.Capture.{wrongMark, itemAt, walkAt};
 ghost use Rattle.capture.specs.Coded.{itemOf, told};
-ghost use Rattle.capture.specs.Reader.{readerAt, Stretch};
+ghost use Rattle.capture.specs.Reader.{readerAt};
 
 // The mark of a record toward the device, its two bytes as a WORD.
 const TO_DEVICE: u16 = 0x4C3E;
@@ -20,7 +20,8 @@ const HEAD_LENGTH: usize = 4;
 
 // What stands at a place of a capture.
 pub enum Step {
-    // A whole record. Its message is length bytes from start on; the next place is behind it.
+    // A whole record. Its message is length bytes from start on, which `basis::part_of` lends; the
+    // next place is behind it.
     Record {
         to_device: bool,
         start: usize,
@@ -91,15 +92,6 @@ fn walk_at(capture: &[u8], at: usize) -> Walked
         Step::End => Walked { step, at },
         Step::Fault(_) => Walked { step, at },
     }
-}
-
-// A part of the capture itself, as much of it as there is.
-pub fn part_at<'a>(capture: &'a [u8], start: usize, length: usize) -> &'a [u8]
-    ensures { λ r. ⌜ Stretch r (capture .entry) start length ⌝ }
-{
-    let from = basis::least(start, capture.len());
-    let count = basis::least(length, capture.len() - from);
-    &capture[from..from + count]
 }
 
 // A borrowed capture and the place of its next record.

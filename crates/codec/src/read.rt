@@ -17,8 +17,11 @@ ghost use Rattle.codec.specs.Coded.{versionPlace};
 // Where the data of a message begins, what stands behind a result or a version text there, and the
 // data of a fragment behind its result and index.
 const DATA: usize = 8;
+
 const BEHIND_RESULT: usize = DATA + 1;
+
 const BEHIND_VERSION: usize = DATA + Fields::VERSION_LENGTH;
+
 const FRAGMENT_DATA: usize = BEHIND_RESULT + 2;
 
 // The data of a fragment, behind its result and index.

@@ -6,9 +6,9 @@ use mathlib.Core.List.{List, [], _∷_}
 use lib.ListN.{length}
 use Rattle.basis.specs.Bytes.{same}
 use Rattle.device_record.specs.Record.{mapBytes}
-use Rattle.gateway.specs.Record.{totalOf}
+use Rattle.gateway_record.specs.Record.{totalOf}
 use Rattle.pcp.specs.Exports.{fact, textOf}
-use Rattle.upgrade.specs.Calls.{DeviceCall, given, asked, installed, GatewayCall, Call, atDevice, atGateway, Ends, next}
+use Rattle.upgrade.specs.Calls.{DeviceCall, given, asked, finished, GatewayCall, Call, atDevice, atGateway, Ends, next}
 use Rattle.upgrade.specs.Records.{DeviceEnd, deviceSays, deviceNumber, gatewaySays, records, World}
 use Rattle.upgrade.specs.Demand3.{deviceThen, start}
 use Rattle.upgrade.specs.Clean.{Reached, arriveAtDevice, arriveAtGateway, answeredByDevice, answeredByGateway, gatewayAsked, deviceAsked, UntilSilent, silent}
@@ -216,7 +216,7 @@ module _ (content : List ℕ) (affirmed : ℕ) (holds : fact affirmed ≡ true) 
 
   shows-ending : (h : Hosts) (w : World) → Shows h w
       → Shows (ending (hosts content) affirmed hostDeviceReply hostGatewayReply h) (ending (records content) true deviceReply gatewayReply w)
-  shows-ending h w s = shows-device-asked _ _ (shows-next _ _ (atDevice (installed 0x00)) (shows-gateway-asked h w s))
+  shows-ending h w s = shows-device-asked _ _ (shows-next _ _ (atDevice (finished 0x00)) (shows-gateway-asked h w s))
 
   -- ---- the run
 

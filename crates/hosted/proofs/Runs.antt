@@ -17,7 +17,7 @@ use Rattle.pcp.specs.Boundary.{numberIn, lengthIn}
 use Rattle.pcp.proofs.Calls.{long-enough}
 use Rattle.pcp.proofs.Refusals.{device-number, device-ask-number, gateway-number, gateway-ask-number}
 use Rattle.pcp.proofs.Carrying.{records-carried}
-use Rattle.upgrade.specs.Calls.{aired, DeviceCall, given, asked, installed, GatewayCall, Call, atDevice, atGateway, next}
+use Rattle.upgrade.specs.Calls.{aired, DeviceCall, given, asked, finished, GatewayCall, Call, atDevice, atGateway, next}
 use Rattle.upgrade.specs.Records.{deviceNext, deviceSays, deviceNumber, gatewayNext, gatewaySays, records}
 use Rattle.hosted.specs.Hosts.{DeviceHost, deviceHostNext, deviceHostSays, deviceHostNumber, deviceSeen, gatewayHostNext, gatewayHostSays, hosts, Hosts}
 use Rattle.hosted.specs.Hosts.{Fitting, seen, deviceCallAs, gatewayCallAs, callAs, HostedRuns}
@@ -45,7 +45,7 @@ module _ (h : DeviceHost) where
   device-room (given supported pcp condition message reply) r =
       by-cases (λ (g : DeviceGiven). deviceLength ≤ length (g .bytes)) (λ _. kept-room deviceLength _ (h .bytes) r) (λ _. r)
   device-room (asked reply) r = r
-  device-room (installed code) r =
+  device-room (finished code) r =
       by-cases (λ (k : Left). deviceLength ≤ length (k .bytes)) (λ _. kept-room deviceLength _ (h .bytes) r) (λ _. r)
 
   pub device-next : (c : DeviceCall ℕ) → deviceLength ≤ length (h .bytes) → deviceSeen (deviceHostNext h c) ≡ deviceNext (deviceSeen h) (deviceCallAs fact c)
@@ -65,7 +65,7 @@ module _ (h : DeviceHost) where
       records-carried .device-receive (h .bytes) (h .image) (h .map) reply supported pcp condition message r in
       λ i. record { device = d i; image = e i .image; map = e i .map }
   device-next (asked reply) r = refl
-  device-next (installed code) r =
+  device-next (finished code) r =
       let d : deviceAt (deviceInstallFinishedOf (h .bytes) code .bytes) ≡ device.installFinishedOf (deviceAt (h .bytes)) code .device =
       records-carried .device-install-finished (h .bytes) code r in
       λ i. record { device = d i; image = h .image; map = h .map }
@@ -92,7 +92,7 @@ module _ (h : DeviceHost) where
       ap (λ (g : Asked). aired (lengthIn (g .answer)) (g .reply)) e
       ∙ ap (λ (k : ℕ). aired k (s .buffer))
       (length-in (s .number) (s .length) (device-ask-number (deviceAt (h .bytes)) (h .image) (h .map) reply))
-  device-says (installed code) r = refl
+  device-says (finished code) r = refl
 
   pub device-number-is : (c : DeviceCall ℕ) → deviceLength ≤ length (h .bytes) → deviceHostNumber h c ≡ deviceNumber (deviceSeen h) (deviceCallAs fact c)
   unfolding deviceHostNumber deviceNumber deviceReceiveOf deviceNextMessageOf deviceInstallFinishedOf
@@ -104,7 +104,7 @@ module _ (h : DeviceHost) where
       let s : Sent = device.nextMessageOf (deviceAt (h .bytes)) (h .image) (h .map) reply in
       ap (λ (a : Asked). numberIn (a .answer)) (sym (long-enough deviceLength (h .bytes) _ _ r))
       ∙ number-in (s .number) (s .length) (device-ask-number (deviceAt (h .bytes)) (h .image) (h .map) reply)
-  device-number-is (installed code) r = ap (λ (k : Left). k .answer) (sym (long-enough deviceLength (h .bytes) _ _ r))
+  device-number-is (finished code) r = ap (λ (k : Left). k .answer) (sym (long-enough deviceLength (h .bytes) _ _ r))
 
 -- ---- the gateway's host
 

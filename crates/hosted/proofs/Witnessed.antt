@@ -14,7 +14,7 @@ use Rattle.codec.specs.Codec.{sealed, frame, bytesOf, readOf, writeOf, said}
 use Rattle.bitmap.specs.Bitmap.{marked, mark, cleared, missingFrom, lowestMissing}
 use Rattle.device_record.specs.Record as device-record
 use Rattle.device.specs.Rules as device
-use Rattle.gateway.specs.Record as gateway-record
+use Rattle.gateway_record.specs.Record as gateway-record
 use Rattle.gateway.specs.Rules as gateway
 use Rattle.layout.specs.Layout.{kept, deviceBytes, deviceAt, gatewayBytes, gatewayAt}
 use Rattle.pcp.specs.Exports.{textOf, deviceNewOf, deviceReceiveOf, gatewayStartOf, gatewayReceiveOf}

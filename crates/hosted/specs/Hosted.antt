@@ -7,7 +7,7 @@ use lib.ListN.{length}
 use Rattle.basis.specs.Bytes.{same}
 use Rattle.message.specs.Limits.{deviceRoom, gatewayRoom}
 use Rattle.device_record.specs.Record.{idle, mapBytes}
-use Rattle.gateway.specs.Record.{offer, totalOf}
+use Rattle.gateway_record.specs.Record.{offer, totalOf}
 use Rattle.layout.specs.Layout.{deviceAt, deviceLength, gatewayAt, gatewayLength}
 use Rattle.pcp.specs.Exports.{fact, textOf, deviceNewOf, gatewayStartOf}
 use Rattle.upgrade.specs.Fold.{after}

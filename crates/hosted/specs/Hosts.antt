@@ -8,7 +8,7 @@ use Rattle.pcp.specs.Exports.{fact, Asked, DeviceGiven, GatewayGiven, deviceRec
 use Rattle.pcp.specs.Exports.{gatewayNextMessageOf}
 use Rattle.pcp.specs.Boundary.{numberIn, lengthIn}
 use Rattle.upgrade.specs.Fold.{after}
-use Rattle.upgrade.specs.Calls.{aired, DeviceCall, given, asked, installed, GatewayCall, Call, atDevice, atGateway, DeviceSide, GatewaySide, Ends, Exchange}
+use Rattle.upgrade.specs.Calls.{aired, DeviceCall, given, asked, finished, GatewayCall, Call, atDevice, atGateway, DeviceSide, GatewaySide, Ends, Exchange}
 use Rattle.upgrade.specs.Calls.{next}
 use Rattle.upgrade.specs.Records.{DeviceEnd, records, World}
 
@@ -31,7 +31,7 @@ deviceHostNext h (given supported pcp condition message reply) =
     let g : DeviceGiven = hostGiven h supported pcp condition message reply in
     record { bytes = g .bytes; image = g .image; map = g .map }
 deviceHostNext h (asked reply) = h
-deviceHostNext h (installed code) = record { bytes = deviceInstallFinishedOf (h .bytes) code .bytes; image = h .image; map = h .map }
+deviceHostNext h (finished code) = record { bytes = deviceInstallFinishedOf (h .bytes) code .bytes; image = h .image; map = h .map }
 
 -- what it puts on the air: as many bytes as the answer says
 unfoldable pub deviceHostSays : DeviceHost → DeviceCall ℕ → List (List ℕ)
@@ -39,12 +39,12 @@ deviceHostSays h (given supported pcp condition message reply) =
     let g : DeviceGiven = hostGiven h supported pcp condition message reply in
     aired (lengthIn (g .answer)) (g .reply)
 deviceHostSays h (asked reply) = aired (lengthIn (hostAsked h reply .answer)) (hostAsked h reply .reply)
-deviceHostSays h (installed code) = []
+deviceHostSays h (finished code) = []
 
 unfoldable pub deviceHostNumber : DeviceHost → DeviceCall ℕ → ℕ
 deviceHostNumber h (given supported pcp condition message reply) = numberIn (hostGiven h supported pcp condition message reply .answer)
 deviceHostNumber h (asked reply) = numberIn (hostAsked h reply .answer)
-deviceHostNumber h (installed code) = deviceInstallFinishedOf (h .bytes) code .answer
+deviceHostNumber h (finished code) = deviceInstallFinishedOf (h .bytes) code .answer
 
 abbrev pub deviceHosts : DeviceSide ℕ
 deviceHosts =
@@ -105,7 +105,7 @@ module _ {F K : Type 0} (of : F → K) where
   abbrev pub deviceCallAs : DeviceCall F → DeviceCall K
   deviceCallAs (given supported pcp condition message reply) = given (of supported) (of pcp) condition message reply
   deviceCallAs (asked reply) = asked reply
-  deviceCallAs (installed code) = installed code
+  deviceCallAs (finished code) = installed code
 
   abbrev pub gatewayCallAs : GatewayCall F → GatewayCall K
   gatewayCallAs (GatewayCall.given supported pcp message reply) = GatewayCall.given (of supported) (of pcp) message reply

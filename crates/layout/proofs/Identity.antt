@@ -7,8 +7,11 @@ use lib.ListN.{length, take, drop, getD, length-append}
 use lib.Seq.{getD-drop, take-at, drop-at, drop-drop}
 use Rattle.basis.specs.Bytes.{Bytes, wordAt, wordBytes, part, over}
 use Rattle.basis.proofs.Lists.{word-high, word-low, part-within, part-drop, over-take}
+use Rattle.message.specs.declared.Fields.{Fields}
+use Rattle.message.specs.Messages.{fieldsBytes}
 use Rattle.device_record.specs.declared.Device.{Device}
-use Rattle.gateway.specs.declared.Gateway.{Gateway}
+use Rattle.gateway_record.specs.declared.Gateway.{Gateway}
+use Rattle.gateway_record.specs.Record.{packageFields}
 use Rattle.layout.specs.Identity.{Identity}
 use Rattle.layout.specs.Layout.{deviceBytes, deviceAt, deviceLength, longAt, longBytes, gatewayBytes, gatewayAt, gatewayLength}
 
@@ -52,8 +55,8 @@ module _ (b : List ℕ) (h : Bytes b) where
   device-back : deviceLength ≤ length b → deviceBytes (deviceAt b) ≡ take deviceLength b
   unfolding deviceBytes deviceAt part
   device-back room =
-      (λ i. getD b 0 0 ∷ [] ++ (part b 1 16 ++ (part b 17 16
-      ++ (word-part 33 i ++ (word-part 35 i ++ (word-part 37 i ++ (word-part 39 i ++ (word-part 41 i ++ (getD b 43 0 ∷ [])))))))))
+      (λ i. getD b 0 0 ∷ [] ++ (part b 1 16 ++ ((part b 17 16 ++ (word-part 33 i ++ (word-part 35 i ++ word-part 37 i)))
+      ++ (word-part 39 i ++ (word-part 41 i ++ (getD b 43 0 ∷ []))))))
       ∙ part-within b 0 deviceLength room
 
   gateway-back : gatewayLength ≤ length b → gatewayBytes (gatewayAt b) ≡ take gatewayLength b
@@ -95,7 +98,8 @@ module _ (d : Device) (o : List ℕ) (running : length (d .running) ≡ 16) (tar
   laid =
       ap (λ (k : ℕ). deviceBytes d ++ drop k o) length-device
       ∙ ap (λ (l : List ℕ). d .phase ∷ l)
-      (append-assoc (d .running) _ _ ∙ ap (λ (l : List ℕ). d .running ++ l) (append-assoc (d .fields .version) _ _))
+      (append-assoc (d .running) _ _
+      ∙ ap (λ (l : List ℕ). d .running ++ l) (append-assoc (fieldsBytes (d .fields)) _ _ ∙ append-assoc (d .fields .version) _ _))
 
   behind-running : drop 17 all ≡ d .fields .version ++ numbers
   unfolding all
@@ -125,12 +129,12 @@ module _ (d : Device) (o : List ℕ) (running : length (d .running) ≡ 16) (tar
         outcome = outcome i;
       })
 
-module _ (g : Gateway) (o : List ℕ) (target : length (g .version) ≡ 16) where
+module _ (g : Gateway) (o : List ℕ) (target : length (g .fields .version) ≡ 16) where
   gateway-numbers : List ℕ
-  gateway-numbers = wordBytes (g .size) ++ (longBytes (g .length) ++ (wordBytes (g .code) ++ drop gatewayLength o))
+  gateway-numbers = wordBytes (g .fields .size) ++ (longBytes (g .length) ++ (wordBytes (g .fields .code) ++ drop gatewayLength o))
 
   gateway-all : List ℕ
-  gateway-all = g .phase ∷ g .ending ∷ (g .version ++ gateway-numbers)
+  gateway-all = g .phase ∷ g .ending ∷ (g .fields .version ++ gateway-numbers)
 
   length-gateway : length (gatewayBytes g) ≡ gatewayLength
   unfolding gatewayBytes
@@ -139,27 +143,29 @@ module _ (g : Gateway) (o : List ℕ) (target : length (g .version) ≡ 16) wher
   gateway-laid : over (gatewayBytes g) o ≡ gateway-all
   unfolding over gatewayBytes gateway-all gateway-numbers
   gateway-laid =
-      ap (λ (k : ℕ). gatewayBytes g ++ drop k o) length-gateway ∙ ap (λ (l : List ℕ). g .phase ∷ g .ending ∷ l) (append-assoc (g .version) _ _)
+      ap (λ (k : ℕ). gatewayBytes g ++ drop k o) length-gateway ∙ ap (λ (l : List ℕ). g .phase ∷ g .ending ∷ l) (append-assoc (g .fields .version) _ _)
 
   behind-version : drop 18 gateway-all ≡ gateway-numbers
   unfolding gateway-all
-  behind-version = drop-at (g .version) gateway-numbers 16 target
+  behind-version = drop-at (g .fields .version) gateway-numbers 16 target
 
-  gateway-kept : gatewayAt (over (gatewayBytes g) o) ≡ g
+  gateway-kept : g .fields ≡ packageFields (g .fields .version) (g .fields .size) (g .length) (g .fields .code)
+      → gatewayAt (over (gatewayBytes g) o) ≡ g
   unfolding gatewayAt gateway-all gateway-numbers
-  gateway-kept =
+  gateway-kept fields =
       let n : ℕ = g .length in
-      let text : part gateway-all 2 16 ≡ g .version = sym (part-drop 2 gateway-all 0 16) ∙ part-front (g .version) _ 16 target in
+      let text : part gateway-all 2 16 ≡ g .fields .version = sym (part-drop 2 gateway-all 0 16) ∙ part-front (g .fields .version) _ 16 target in
       let at : (k : ℕ) → wordAt gateway-all (18 + k) ≡ wordAt gateway-numbers k = λ k. word-behind 18 k gateway-all gateway-numbers behind-version in
-      let size : wordAt gateway-all 18 ≡ g .size = at 0 ∙ word-back _ in
+      let size : wordAt gateway-all 18 ≡ g .fields .size = at 0 ∙ word-back _ in
       let long : longAt gateway-all 20 ≡ g .length =
       (λ i. ((at 2 i * 65536 + at 4 i) * 65536 + at 6 i) * 65536 + at 8 i)
       ∙ (λ i. ((word-back (n / 281474976710656) i * 65536 + word-back (n / 4294967296 % 65536) i) * 65536 + word-back (n / 65536 % 65536) i) * 65536
       + word-back (n % 65536) i)
       ∙ long-back n in
-      let code : wordAt gateway-all 28 ≡ g .code = at 10 ∙ word-back _ in
+      let code : wordAt gateway-all 28 ≡ g .fields .code = at 10 ∙ word-back _ in
       ap gatewayAt gateway-laid
-      ∙ (λ i. record { phase = g .phase; ending = g .ending; version = text i; size = size i; length = long i; code = code i })
+      ∙ (λ i. record { phase = g .phase; ending = g .ending; fields = packageFields (text i) (size i) (long i) (code i); length = long i })
+      ∙ ap (λ (f : Fields). record { phase = g .phase; ending = g .ending; fields = f; length = g .length }) (sym fields)
 
 -- ---- the claim
 
@@ -171,7 +177,7 @@ identity =
       gateway-back = gateway-back;
       gateway-same = λ b h room. ap (λ (p : List ℕ). over p b) (gateway-back b h room) ∙ over-take gatewayLength b room;
       device-kept = λ d buffer t. device-kept d buffer (t .running) (t .target);
-      gateway-kept = gateway-kept;
+      gateway-kept = λ g buffer w. gateway-kept g buffer (w .target) (w .fields);
       device-length = λ d t. length-device d [] (t .running) (t .target);
       gateway-length = λ g t. length-gateway g [] t;
     }

@@ -8,8 +8,9 @@ use borrow.Author.Tests.{le-leb, lt-leb}
 use Rattle.basis.specs.Bytes.{wordBytes, over, patched}
 use Rattle.basis.proofs.Choosing.{pick-yes, pick-no}
 use Rattle.basis.proofs.Lists.{patched-over, patched-front}
+use Rattle.message.specs.Messages.{fieldsBytes}
 use Rattle.device_record.specs.declared.Device.{Device}
-use Rattle.gateway.specs.declared.Gateway.{Gateway}
+use Rattle.gateway_record.specs.declared.Gateway.{Gateway}
 use Rattle.layout.specs.Layout.{deviceBytes, longBytes, gatewayBytes, kept}
 
 -- ---- a record put into a buffer, part by part
@@ -37,24 +38,22 @@ module _ (o : List ℕ) where
 
 -- ---- the two records
 
-pub device-put : (d : Device) (o o₁ o₂ o₃ o₄ numbers : List ℕ) → length (d .running) ≡ 16 → length (d .fields .version) ≡ 16
-    → numbers
-    ≡ wordBytes (d .fields .size)
-    ++ (wordBytes (d .fields .total) ++ (wordBytes (d .fields .code) ++ (wordBytes (d .stored) ++ (wordBytes (d .last) ++ (d .outcome ∷ [])))))
-    → o₁ ≡ patched 0 (d .phase ∷ []) o → o₂ ≡ patched 1 (d .running) o₁ → o₃ ≡ patched 17 (d .fields .version) o₂ → o₄ ≡ patched 33 numbers o₃
+pub device-put : (d : Device) (o o₁ o₂ o₃ o₄ rest : List ℕ) → length (d .running) ≡ 16 → length (d .fields .version) ≡ 16
+    → rest ≡ wordBytes (d .stored) ++ (wordBytes (d .last) ++ (d .outcome ∷ []))
+    → o₁ ≡ patched 0 (d .phase ∷ []) o → o₂ ≡ patched 1 (d .running) o₁ → o₃ ≡ patched 17 (fieldsBytes (d .fields)) o₂ → o₄ ≡ patched 39 rest o₃
     → o₄ ≡ over (deviceBytes d) o
 unfolding deviceBytes
-device-put d o o₁ o₂ o₃ o₄ numbers r v n e f g h =
-    four o (d .phase ∷ []) (d .running) (d .fields .version) _ o₁ o₂ o₃ o₄ 1 17 33 refl (omega arith) (omega arith) e f g
-    (h ∙ ap (λ (xs : List ℕ). patched 33 xs o₃) n)
+device-put d o o₁ o₂ o₃ o₄ rest r v n e f g h =
+    four o (d .phase ∷ []) (d .running) (fieldsBytes (d .fields)) _ o₁ o₂ o₃ o₄ 1 17 39 refl (omega arith) (simp (length-append, v) (omega arith)) e f g
+    (h ∙ ap (λ (xs : List ℕ). patched 39 xs o₃) n)
 
-pub gateway-put : (g : Gateway) (o o₁ o₂ o₃ numbers : List ℕ) → length (g .version) ≡ 16
-    → numbers ≡ wordBytes (g .size) ++ (longBytes (g .length) ++ wordBytes (g .code))
-    → o₁ ≡ patched 0 (g .phase ∷ g .ending ∷ []) o → o₂ ≡ patched 2 (g .version) o₁ → o₃ ≡ patched 18 numbers o₂
+pub gateway-put : (g : Gateway) (o o₁ o₂ o₃ rest : List ℕ) → length (g .fields .version) ≡ 16
+    → rest ≡ wordBytes (g .fields .size) ++ (longBytes (g .length) ++ wordBytes (g .fields .code))
+    → o₁ ≡ patched 0 (g .phase ∷ g .ending ∷ []) o → o₂ ≡ patched 2 (g .fields .version) o₁ → o₃ ≡ patched 18 rest o₂
     → o₃ ≡ over (gatewayBytes g) o
 unfolding gatewayBytes
-gateway-put g o o₁ o₂ o₃ numbers v n e f h =
-    three o (g .phase ∷ g .ending ∷ []) (g .version) _ o₁ o₂ o₃ 2 18 refl (omega arith) e f (h ∙ ap (λ (xs : List ℕ). patched 18 xs o₂) n)
+gateway-put g o o₁ o₂ o₃ rest v n e f h =
+    three o (g .phase ∷ g .ending ∷ []) (g .fields .version) _ o₁ o₂ o₃ 2 18 refl (omega arith) e f (h ∙ ap (λ (xs : List ℕ). patched 18 xs o₂) n)
 
 -- ---- the buffer after a call
 

@@ -6,19 +6,17 @@ use lib.Dec.{leb}
 use lib.ListN.{length, getD}
 use Rattle.basis.specs.Choice.{pick}
 use Rattle.basis.specs.Bytes.{wordAt, wordBytes, part, over}
+use Rattle.message.specs.Messages.{fieldsBytes, fieldsAt}
 use Rattle.device_record.specs.declared.Device.{Device}
-use Rattle.gateway.specs.declared.Gateway.{Gateway}
+use Rattle.gateway_record.specs.declared.Gateway.{Gateway}
+use Rattle.gateway_record.specs.Record.{packageFields}
 
 -- ---- the device's record: 44 bytes
 
--- phase, running version, target version, size, total, check code, stored count, last length, kept code
+-- phase, running version, the four fields of the download, stored count, last length, kept code
 unfoldable pub deviceBytes : Device → List ℕ
 deviceBytes d =
-    d .phase ∷ []
-    ++ (d .running
-    ++ (d .fields .version
-    ++ (wordBytes (d .fields .size) ++ (wordBytes (d .fields .total) ++ (wordBytes (d .fields .code)
-    ++ (wordBytes (d .stored) ++ (wordBytes (d .last) ++ (d .outcome ∷ []))))))))
+    d .phase ∷ [] ++ (d .running ++ (fieldsBytes (d .fields) ++ (wordBytes (d .stored) ++ (wordBytes (d .last) ++ (d .outcome ∷ [])))))
 
 abbrev pub deviceLength : ℕ
 deviceLength = 44
@@ -29,7 +27,7 @@ deviceAt b =
     record {
       phase = getD b 0 0;
       running = part b 1 16;
-      fields = record { version = part b 17 16; size = wordAt b 33; total = wordAt b 35; code = wordAt b 37 };
+      fields = fieldsAt b 17;
       stored = wordAt b 39;
       last = wordAt b 41;
       outcome = getD b 43 0;
@@ -45,17 +43,17 @@ abbrev pub longBytes : ℕ → List ℕ
 longBytes n =
     wordBytes (n / 281474976710656) ++ (wordBytes (n / 4294967296 % 65536) ++ (wordBytes (n / 65536 % 65536) ++ wordBytes (n % 65536)))
 
--- phase, ending number, version, size, package length, check code
+-- phase, ending number, version, size, package length, check code. The total follows from size and length, so that it is not kept
 unfoldable pub gatewayBytes : Gateway → List ℕ
 gatewayBytes g =
-    g .phase ∷ g .ending ∷ [] ++ (g .version ++ (wordBytes (g .size) ++ (longBytes (g .length) ++ wordBytes (g .code))))
+    g .phase ∷ g .ending ∷ [] ++ (g .fields .version ++ (wordBytes (g .fields .size) ++ (longBytes (g .length) ++ wordBytes (g .fields .code))))
 
 abbrev pub gatewayLength : ℕ
 gatewayLength = 30
 
 unfoldable pub gatewayAt : List ℕ → Gateway
 gatewayAt b =
-    record { phase = getD b 0 0; ending = getD b 1 0; version = part b 2 16; size = wordAt b 18; length = longAt b 20; code = wordAt b 28 }
+    record { phase = getD b 0 0; ending = getD b 1 0; fields = packageFields (part b 2 16) (wordAt b 18) (longAt b 20) (wordAt b 28); length = longAt b 20 }
 
 -- ---- after a call
 

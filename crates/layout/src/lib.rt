@@ -1,7 +1,7 @@
 // The records as bytes in a buffer that a host lends (docs/MANUAL.md has the layouts). Any bytes are
 // some record: whether it keeps the rules, the calls tell (29).
 use device_record::Device;
-use gateway::Gateway;
+use gateway_record::Gateway;
 use message::Fields;
 ghost use mathlib.Core.Path.{_≡_};
 ghost use mathlib.Core.List.{[], _∷_, _++_};
@@ -10,50 +10,53 @@ ghost use lib.ListN.{length};
 ghost use Rattle.basis.specs.Bytes.{wordBytes, over};
 ghost use Rattle.layout.specs.Layout.{deviceAt, deviceBytes, deviceLength, longAt, longBytes, gatewayAt, gatewayBytes, gatewayLength, kept};
 
-// The lengths of the two layouts.
-pub const DEVICE_LENGTH: usize = 44;
+// Where the parts of the device's record stand, each behind the one before: the phase first.
+const RUNNING: usize = 1;
 
-pub const GATEWAY_LENGTH: usize = 30;
+const FIELDS: usize = RUNNING + Fields::VERSION_LENGTH;
+
+const STORED: usize = FIELDS + Fields::LENGTH;
+
+const LAST: usize = STORED + 2;
+
+const OUTCOME: usize = LAST + 2;
+
+pub const DEVICE_LENGTH: usize = OUTCOME + 1;
+
+// And of the gateway's: phase and ending number first.
+const VERSION: usize = 2;
+
+const SIZE: usize = VERSION + Fields::VERSION_LENGTH;
+
+const PACKAGE: usize = SIZE + 2;
+
+const CODE: usize = PACKAGE + 8;
+
+pub const GATEWAY_LENGTH: usize = CODE + 2;
 
 // The device's record that stands at the front of the bytes. A byte that is not there counts as 0.
 pub fn device_at(bytes: &[u8]) -> Device
     ensures { λ r. ⌜ r ≡ deviceAt (now (bytes .entry)) ⌝ }
 {
-    let running = message::version_at(bytes, 1);
-    let version = message::version_at(bytes, 17);
-    let fields = Fields {
-        version,
-        size: basis::word_at(bytes, 33),
-        total: basis::word_at(bytes, 35),
-        code: basis::word_at(bytes, 37),
-    };
+    let running = message::version_at(bytes, RUNNING);
+    let fields = message::fields_at(bytes, FIELDS);
     Device {
         phase: basis::byte_at(bytes, 0),
         running,
         fields,
-        stored: basis::word_at(bytes, 39),
-        last: basis::word_at(bytes, 41),
-        outcome: basis::byte_at(bytes, 43),
+        stored: basis::word_at(bytes, STORED),
+        last: basis::word_at(bytes, LAST),
+        outcome: basis::byte_at(bytes, OUTCOME),
     }
 }
 
-// The numbers of the device's record behind its version texts.
-fn device_numbers(size: u16, total: u16, code: u16, stored: u16, last: u16, outcome: u8) -> [u8; 11]
-    ensures { λ r. ⌜ r ≡ wordBytes size ++ (wordBytes total ++ (wordBytes code ++ (wordBytes stored ++ (wordBytes last ++ (outcome ∷ []))))) ⌝ }
+// What stands behind the fields in the device's record.
+fn device_rest(stored: u16, last: u16, outcome: u8) -> [u8; 5]
+    ensures { λ r. ⌜ r ≡ wordBytes stored ++ (wordBytes last ++ (outcome ∷ [])) ⌝ }
 {
-    [
-        (size / 256) as u8,
-        (size % 256) as u8,
-        (total / 256) as u8,
-        (total % 256) as u8,
-        (code / 256) as u8,
-        (code % 256) as u8,
-        (stored / 256) as u8,
-        (stored % 256) as u8,
-        (last / 256) as u8,
-        (last % 256) as u8,
-        outcome,
-    ]
+    let count = basis::word_bytes(stored);
+    let length = basis::word_bytes(last);
+    [count[0], count[1], length[0], length[1], outcome]
 }
 
 // The device's record into a buffer that has room for it.
@@ -64,19 +67,11 @@ fn put_device(buffer: &mut [u8], device: Device)
     let phase = [device.phase];
     let running = device.running;
     let fields = device.fields;
-    let target = fields.version;
-    let numbers = device_numbers(
-        fields.size,
-        fields.total,
-        fields.code,
-        device.stored,
-        device.last,
-        device.outcome,
-    );
+    let rest = device_rest(device.stored, device.last, device.outcome);
     basis::put(buffer, 0, &phase);
-    basis::put(buffer, 1, &running);
-    basis::put(buffer, 17, &target);
-    basis::put(buffer, 33, &numbers);
+    basis::put(buffer, RUNNING, &running);
+    message::put_fields(buffer, FIELDS, fields);
+    basis::put(buffer, STORED, &rest);
 }
 
 // The device's record as a call returned it, with whatever number; written only where there is room
@@ -94,45 +89,62 @@ pub fn keep_device(buffer: &mut [u8], device: Device)
 fn length_at(bytes: &[u8]) -> usize
     ensures { λ r. ⌜ r ≡ longAt (now (bytes .entry)) 20 ⌝ }
 {
-    let a = basis::word_at(bytes, 20) as usize;
-    let b = basis::word_at(bytes, 22) as usize;
-    let c = basis::word_at(bytes, 24) as usize;
-    let d = basis::word_at(bytes, 26) as usize;
+    let a = basis::word_at(bytes, PACKAGE) as usize;
+    let b = basis::word_at(bytes, PACKAGE + 2) as usize;
+    let c = basis::word_at(bytes, PACKAGE + 4) as usize;
+    let d = basis::word_at(bytes, PACKAGE + 6) as usize;
     ((a * 65536 + b) * 65536 + c) * 65536 + d
 }
 
 // The gateway's record that stands at the front of the bytes. A byte that is not there counts as 0.
+// The total is worked out from size and length.
 pub fn gateway_at(bytes: &[u8]) -> Gateway
     ensures { λ r. ⌜ r ≡ gatewayAt (now (bytes .entry)) ⌝ }
 {
-    let version = message::version_at(bytes, 2);
+    let version = message::version_at(bytes, VERSION);
+    let size = basis::word_at(bytes, SIZE);
+    let length = length_at(bytes);
+    let code = basis::word_at(bytes, CODE);
+    let fields = gateway_record::package_fields(version, size, length, code);
     Gateway {
         phase: basis::byte_at(bytes, 0),
         ending: basis::byte_at(bytes, 1),
-        version,
-        size: basis::word_at(bytes, 18),
-        length: length_at(bytes),
-        code: basis::word_at(bytes, 28),
+        fields,
+        length,
     }
 }
 
-// The numbers of the gateway's record behind its version text.
-fn gateway_numbers(size: u16, length: usize, code: u16) -> [u8; 12]
+// The package length as its four WORDs.
+fn long_bytes(n: usize) -> [u8; 8]
+    ensures { λ r. ⌜ r ≡ longBytes n ⌝ }
+{
+    let a = basis::word_bytes((n / 281474976710656) as u16);
+    let b = basis::word_bytes((n / 4294967296 % 65536) as u16);
+    let c = basis::word_bytes((n / 65536 % 65536) as u16);
+    let d = basis::word_bytes((n % 65536) as u16);
+    [a[0], a[1], b[0], b[1], c[0], c[1], d[0], d[1]]
+}
+
+// What stands behind the version text in the gateway's record.
+fn gateway_rest(size: u16, length: usize, code: u16) -> [u8; 12]
     ensures { λ r. ⌜ r ≡ wordBytes size ++ (longBytes length ++ wordBytes code) ⌝ }
 {
+    let s = basis::word_bytes(size);
+    let n = long_bytes(length);
+    let c = basis::word_bytes(code);
     [
-        (size / 256) as u8,
-        (size % 256) as u8,
-        (length / 281474976710656 / 256) as u8,
-        (length / 281474976710656 % 256) as u8,
-        (length / 4294967296 % 65536 / 256) as u8,
-        (length / 4294967296 % 65536 % 256) as u8,
-        (length / 65536 % 65536 / 256) as u8,
-        (length / 65536 % 65536 % 256) as u8,
-        (length % 65536 / 256) as u8,
-        (length % 65536 % 256) as u8,
-        (code / 256) as u8,
-        (code % 256) as u8,
+        s[0],
+        s[1],
+        n[0],
+        n[1],
+        n[2],
+        n[3],
+        n[4],
+        n[5],
+        n[6],
+        n[7],
+        c[0],
+        c[1],
     ]
 }
 
@@ -142,11 +154,12 @@ fn put_gateway(buffer: &mut [u8], gateway: Gateway)
     ensures { λ _. ⌜ now (buffer .exit) ≡ over (gatewayBytes gateway) (now (buffer .entry)) ⌝ }
 {
     let head = [gateway.phase, gateway.ending];
-    let version = gateway.version;
-    let numbers = gateway_numbers(gateway.size, gateway.length, gateway.code);
+    let fields = gateway.fields;
+    let version = fields.version;
+    let rest = gateway_rest(fields.size, gateway.length, fields.code);
     basis::put(buffer, 0, &head);
-    basis::put(buffer, 2, &version);
-    basis::put(buffer, 18, &numbers);
+    basis::put(buffer, VERSION, &version);
+    basis::put(buffer, SIZE, &rest);
 }
 
 // The gateway's record as a call returned it, with whatever number; written only where there is room

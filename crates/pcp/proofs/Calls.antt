@@ -19,11 +19,11 @@ use Rattle.device.specs.declared.Finished.{Finished}
 use Rattle.device.specs.declared.Said.{Said}
 use Rattle.device.specs.Coded.{afterCall, afterAsk}
 use Rattle.device.specs.Rules as device
-use Rattle.gateway.specs.declared.Gateway.{Gateway}
-use Rattle.gateway.specs.declared.Started.{Started}
+use Rattle.gateway_record.specs.declared.Gateway.{Gateway}
+use Rattle.gateway_record.specs.declared.Started.{Started}
 use Rattle.gateway.specs.declared.Answer as gateway-answer
 use Rattle.gateway.specs.declared.Said as gateway-said
-use Rattle.gateway.specs.Record.{startOf}
+use Rattle.gateway_record.specs.Record.{startOf}
 use Rattle.gateway.specs.Coded as coded
 use Rattle.gateway.specs.Rules as gateway
 use Rattle.layout.specs.Layout.{deviceAt, deviceLength, gatewayAt, gatewayLength}

@@ -15,8 +15,8 @@ use Rattle.codec.specs.Codec.{bytesOf, readOf, said}
 use Rattle.codec.proofs.Frames.{length-frame}
 use Rattle.device_record.specs.declared.Device.{Device}
 use Rattle.device.specs.Rules as device
-use Rattle.gateway.specs.declared.Gateway.{Gateway}
-use Rattle.gateway.specs.Record.{fragmentOf, offered, callRefusal}
+use Rattle.gateway_record.specs.declared.Gateway.{Gateway}
+use Rattle.gateway_record.specs.Record.{fragmentOf, offered, callRefusal}
 use Rattle.gateway.specs.Rules as gateway
 use Rattle.gateway.proofs.Saying.{told}
 

@@ -18,7 +18,7 @@ use Rattle.codec.proofs.RoundTrip.{device-round-trip, gateway-round-trip}
 use Rattle.device_record.specs.declared.Device.{Device}
 use Rattle.device.specs.declared.Finished.{Finished}
 use Rattle.device.specs.Rules as device
-use Rattle.gateway.specs.declared.Gateway.{Gateway}
+use Rattle.gateway_record.specs.declared.Gateway.{Gateway}
 use Rattle.gateway.specs.Rules as gateway
 use Rattle.layout.specs.Layout.{deviceAt, deviceLength, gatewayAt, gatewayLength}
 use Rattle.layout.proofs.Identity.{identity}

@@ -117,7 +117,7 @@ fn carry_out(
             length,
         } => {
             if to_device {
-                let message = capture::part_at(capture, start, length);
+                let message = basis::part_of(capture, start, length);
                 give(message, number, next, answer, image, map, reply, out, end)
             } else {
                 Turn {

@@ -3,7 +3,7 @@
 use Prim.Native.Nat.{ℕ}
 use mathlib.Core.Path.{refl, sym, _∙_, ap}
 use mathlib.Core.List.{List, [], _∷_, _++_, List·Memᴰ, List·Memᴰ·head, List·Memᴰ·tail, Memᴰ·append-left, Memᴰ·append-right}
-use Rattle.upgrade.specs.Calls.{DeviceCall, given, asked, installed, GatewayCall, Call, atDevice, atGateway, Ends, Both, next, May}
+use Rattle.upgrade.specs.Calls.{DeviceCall, given, asked, finished, GatewayCall, Call, atDevice, atGateway, Ends, Both, next, May}
 use Rattle.upgrade.specs.Clean.{arriveAtDevice, arriveAtGateway, answeredByDevice, answeredByGateway, gatewayAsked, deviceAsked, UntilSilent, silent}
 use Rattle.upgrade.specs.Clean.{spoken, ending, Reached}
 use Rattle.upgrade.proofs.Folds.{after-append, allowed-last}
@@ -107,4 +107,4 @@ module _ (e : Ends) (start : Both e) where
 
     pub at-end : (v : Both e) → Reached e start v → Reached e start (ending e affirmed deviceReply gatewayReply v)
     unfolding May
-    at-end v r = device-asked _ (reached-next _ (atDevice (installed 0x00)) (gateway-asked v r) tt)
+    at-end v r = device-asked _ (reached-next _ (atDevice (finished 0x00)) (gateway-asked v r) tt)

@@ -21,8 +21,8 @@ use Rattle.device_record.specs.Record as device
 use Rattle.device.specs.Rules as device-rules
 use Rattle.device.proofs.Standing.{standing}
 use Rattle.device.proofs.Sound.{sound-record, sound-room}
-use Rattle.gateway.specs.declared.Gateway.{Gateway}
-use Rattle.gateway.specs.Record as gateway
+use Rattle.gateway_record.specs.declared.Gateway.{Gateway}
+use Rattle.gateway_record.specs.Record as gateway
 use Rattle.gateway.specs.Rules as gateway-rules
 use Rattle.upgrade.specs.Calls.{aired, DeviceCall, given, asked, GatewayCall, atDevice, atGateway, next}
 use Rattle.upgrade.specs.Records.{DeviceEnd, deviceAnswer, deviceNext, deviceSays, deviceNumber, gatewayNext, gatewaySays, World, records}

@@ -5,8 +5,8 @@ use mathlib.Core.Path.{_≡_, refl, ap}
 use mathlib.Core.Bool.{true}
 use mathlib.Core.List.{List}
 use Rattle.device_record.specs.Record as device
-use Rattle.gateway.specs.declared.Gateway.{Gateway}
-use Rattle.gateway.specs.Record as gateway
+use Rattle.gateway_record.specs.declared.Gateway.{Gateway}
+use Rattle.gateway_record.specs.Record as gateway
 use Rattle.upgrade.specs.Calls.{Ends, Both}
 use Rattle.upgrade.specs.Records.{DeviceEnd, World, records}
 use Rattle.upgrade.specs.Clean.{UntilSilent, silent, spoken, ending}

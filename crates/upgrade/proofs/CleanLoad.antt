@@ -16,8 +16,8 @@ use Rattle.bitmap.specs.Bitmap.{marked, mark, cleared, lowestMissing}
 use Rattle.bitmap.proofs.Bitmaps.{mark-same, mark-other, length-mark, cleared-none, length-cleared, lowest-missing, lowest-first}
 use Rattle.device_record.proofs.Maps.{mapBytes-cover, byte-within}
 use Rattle.device.proofs.Images.{place-within}
-use Rattle.gateway.specs.Record.{totalOf, fragmentOf}
-use Rattle.gateway.proofs.Package.{total-covers, below-total, stretch-fits, stretch-some, length-fragment}
+use Rattle.gateway_record.specs.Record.{totalOf, fragmentOf}
+use Rattle.gateway_record.proofs.Package.{total-covers, below-total, stretch-fits, stretch-some, length-fragment}
 
 place-more : (k size : ℕ) → (k + 1) * size ≡ k * size + size
 place-more k size = rw add-one (suc-mul k size)

@@ -14,10 +14,10 @@ use Rattle.checksum.proofs.Register.{check-fits}
 use Rattle.message.specs.Limits.{isWord}
 use Rattle.message.specs.Messages.{GatewayMessage, Reading}
 use Rattle.device.specs.Rules.{passes}
-use Rattle.gateway.specs.declared.Gateway.{Gateway}
-use Rattle.gateway.specs.Record as gateway
+use Rattle.gateway_record.specs.declared.Gateway.{Gateway}
+use Rattle.gateway_record.specs.Record as gateway
 use Rattle.gateway.proofs.Views.{Turns, stays, offers, serves, runs, fails, succeeds, received}
-use Rattle.gateway.proofs.Package.{Begun, starts}
+use Rattle.gateway_record.proofs.Package.{Begun, starts}
 use Rattle.upgrade.specs.Fold.{after}
 use Rattle.upgrade.specs.Calls.{GatewayCall, Ends}
 use Rattle.upgrade.specs.Records.{gatewayNext, World, records}

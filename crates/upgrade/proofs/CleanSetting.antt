@@ -15,9 +15,9 @@ use Rattle.message.specs.declared.Fields.{Fields}
 use Rattle.device_record.specs.declared.Device.{Device}
 use Rattle.device_record.specs.Record as device
 use Rattle.device.specs.Rules as device-rules
-use Rattle.gateway.specs.declared.Gateway.{Gateway}
-use Rattle.gateway.specs.Record as gateway
-use Rattle.gateway.proofs.Package.{total-some as some-total, total-most}
+use Rattle.gateway_record.specs.declared.Gateway.{Gateway}
+use Rattle.gateway_record.specs.Record as gateway
+use Rattle.gateway_record.proofs.Package.{total-some as some-total, total-most}
 use Rattle.upgrade.specs.Records.{DeviceEnd, World}
 use Rattle.upgrade.proofs.Count.{Fine}
 

@@ -21,10 +21,10 @@ use Rattle.bitmap.specs.Bitmap.{mark, cleared}
 use Rattle.device.specs.Rules as device-rules
 use Rattle.device.proofs.Standing.{standing}
 use Rattle.device.proofs.Sound.{sound-record}
-use Rattle.gateway.specs.Record as gateway
+use Rattle.gateway_record.specs.Record as gateway
 use Rattle.gateway.specs.Rules as gateway-rules
-use Rattle.gateway.proofs.Package.{stretch-fits}
-use Rattle.upgrade.specs.Calls.{installed, atDevice, next}
+use Rattle.gateway_record.proofs.Package.{stretch-fits}
+use Rattle.upgrade.specs.Calls.{finished, atDevice, next}
 use Rattle.upgrade.specs.Records.{DeviceEnd, deviceNext, World, records}
 use Rattle.upgrade.specs.Clean.{askedNumber}
 use Rattle.upgrade.proofs.Count.{any, call-fine}
@@ -154,12 +154,12 @@ module _ (s : Setting) where
         (aired-message toGateway (executeReply 0x00)) refl (λ _. refl)
 
     pub finished : At w (endIn s device.installing stored last image map) (gatewayIn s gateway.run)
-        → At (next (records (s .content)) w (atDevice (installed 0x00))) (updatedIn s device.reporting stored last image map) (gatewayIn s gateway.run)
+        → At (next (records (s .content)) w (atDevice (finished 0x00))) (updatedIn s device.reporting stored last image map) (gatewayIn s gateway.run)
     unfolding next deviceNext device-rules.installFinishedOf refusal installCode oneOf pick
     finished here =
         let e : DeviceEnd = endIn s device.installing stored last image map in
         let good : device.recordOk (e .device) ≡ true = sound-record (standing any) (e .device) image map (here .sound) in
-        rw (here .device-is, good) record { device-is = refl; gateway-is = here .gateway-is; sound = rw good at (call-fine e (installed 0x00) (here .sound)) }
+        rw (here .device-is, good) record { device-is = refl; gateway-is = here .gateway-is; sound = rw good at (call-fine e (finished 0x00) (here .sound)) }
 
     pub succeeded : At w (updatedIn s device.reporting stored last image map) (gatewayIn s gateway.run)
         → Spoke s w (updatedIn s device.idle stored last image map) (gatewayIn s gateway.ended)

@@ -15,7 +15,7 @@ use Rattle.device.proofs.Standing.{standing, standing-does}
 use Rattle.device.proofs.Numbers.{receive-neither, ask-neither, install-neither}
 use Rattle.upgrade.specs.Fold.{after}
 use Rattle.upgrade.specs.Counted.{Counted, Count, Roomy, Room, lentNext}
-use Rattle.upgrade.specs.Calls.{DeviceCall, given, asked, installed}
+use Rattle.upgrade.specs.Calls.{DeviceCall, given, asked, finished}
 use Rattle.upgrade.specs.Records.{DeviceEnd, deviceNext, deviceNumber, deviceRecords}
 use Rattle.upgrade.proofs.Lent.{Kept, kept-by, kept-record, kept-given, kept-installed, given-unmet, asked-unmet, installed-unmet}
 
@@ -38,7 +38,7 @@ call-fine e (given supported pcp condition message reply) s =
     standing-does any (e .device) (e .image) (e .map) _ _ (receive-does (e .device) (e .image) (e .map) reply supported pcp condition message)
     (λ _ _ _ _ _. tt) s
 call-fine e (asked reply) s = s
-call-fine e (installed code) s =
+call-fine e (finished code) s =
     standing-does any (e .device) (e .image) (e .map) _ _ (install-does (e .device) (e .image) (e .map) code) (λ _ _ _ _ _. tt) s
 
 pub run-fine : (calls : List (DeviceCall Bool)) (e : DeviceEnd) → Fine e → Fine (after deviceNext e calls)
@@ -62,7 +62,7 @@ room version image map made calls =
     not-14 e s (given supported pcp condition message reply) =
         receive-neither rule (e .device) (e .image) (e .map) s reply supported pcp condition message .1
     not-14 e s (asked reply) = ask-neither rule (e .device) (e .image) (e .map) s reply .1
-    not-14 e s (installed code) = install-neither rule (e .device) (e .image) (e .map) s code .1
+    not-14 e s (finished code) = install-neither rule (e .device) (e .image) (e .map) s code .1
 
     roomy : (e : DeviceEnd) → Fine e → Roomy deviceRecords e
     roomy e s = record { room-holds = sound-room rule (e .device) (e .image) (e .map) s; not-14 = not-14 e s }
@@ -97,7 +97,7 @@ count version map made calls =
     not-29 e k image (given supported pcp condition message reply) =
         given-unmet (e .device) image (e .map) reply supported pcp condition message (kept-record (e .device) (e .map) k)
     not-29 e k image (asked reply) = asked-unmet (e .device) image (e .map) reply k
-    not-29 e k image (installed code) = installed-unmet (e .device) (e .map) code k
+    not-29 e k image (finished code) = installed-unmet (e .device) (e .map) code k
 
     counted : (e : DeviceEnd) → KeptIn e → Counted deviceRecords e
     counted e k =

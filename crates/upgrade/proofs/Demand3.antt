@@ -21,13 +21,13 @@ use Rattle.device.proofs.Views
 use Rattle.device.proofs.Views.{Input, hears, Out, spoken}
 use Rattle.device.proofs.Standing.{standing, standing-under, package-stands, package-length}
 use Rattle.device.proofs.Sound.{Sound}
-use Rattle.gateway.specs.declared.Gateway.{Gateway}
-use Rattle.gateway.specs.Record as gateway
+use Rattle.gateway_record.specs.declared.Gateway.{Gateway}
+use Rattle.gateway_record.specs.Record as gateway
 use Rattle.message.specs.Limits.{sizeOk}
 use Rattle.device_record.proofs.Ranges.{size-range}
-use Rattle.gateway.proofs.Package.{starts, total-covers, below-total, total-some, fragment-is}
+use Rattle.gateway_record.proofs.Package.{starts, total-covers, below-total, total-some, fragment-is}
 use Rattle.upgrade.specs.Fold.{after, Allowed}
-use Rattle.upgrade.specs.Calls.{DeviceCall, given, asked, installed, GatewayCall, Call, atDevice, atGateway, next, May}
+use Rattle.upgrade.specs.Calls.{DeviceCall, given, asked, finished, GatewayCall, Call, atDevice, atGateway, next, May}
 use Rattle.upgrade.specs.Records.{DeviceEnd, gatewayNext, World, records}
 use Rattle.upgrade.specs.Claims.{Executed, reached, ExecutedImage, InstalledBefore}
 use Rattle.upgrade.specs.Demand3.{Before, made, deviceThen, gatewayThen, heldThen, Ready, start, Demand3, Upgrade, InstallLength}
@@ -261,7 +261,7 @@ module _ (b : Before) (ready : Ready b) where
           long = ap₂ (λ (f : Fields) (last : ℕ). f .size * (f .total - 1) + last) (same .0) (same .1) ∙ whole .long;
         })
     answered-whole (atDevice (asked reply)) r m x = absurd x
-    answered-whole (atDevice (installed code)) r m x = absurd x
+    answered-whole (atDevice (finished code)) r m x = absurd x
     answered-whole (atGateway c) r m x = absurd x
 
   executed-whole : (calls : List (Call Bool)) → Allows calls → (earlier : List (Call Bool)) (last : Call Bool) → calls ≡ earlier ++ (last ∷ [])

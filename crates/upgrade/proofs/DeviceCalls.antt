@@ -19,7 +19,7 @@ use Rattle.device.specs.Rules.{announceResult, completion}
 use Rattle.device.proofs.Views
 use Rattle.device.proofs.Views.{Input, hears, asks, installs, Out, out, spoken, storedOut, receiveOut, askOut, installOut, Begins, Resumes, Stores, Still}
 use Rattle.device.proofs.Views.{Moves, Does, receive-does, ask-does, install-does}
-use Rattle.upgrade.specs.Calls.{DeviceCall, given, asked, installed, aired}
+use Rattle.upgrade.specs.Calls.{DeviceCall, given, asked, finished, aired}
 use Rattle.upgrade.specs.Records.{DeviceEnd, deviceNext, deviceSays}
 
 -- the end that a call leaves
@@ -66,30 +66,30 @@ outcomeAt e code running = out 0 (withOutcome code running (e .device)) (e .imag
 abbrev pub inputOf : DeviceCall Bool → Input
 inputOf (given supported pcp condition message reply) = hears condition (readOf toDevice supported pcp message)
 inputOf (asked reply) = asks
-inputOf (installed code) = installs code
+inputOf (finished code) = installs code
 
 abbrev pub outIn : DeviceEnd → DeviceCall Bool → Out
 outIn e (given supported pcp condition message reply) = receiveOut (e .device) (e .image) (e .map) reply supported pcp condition message
 outIn e (asked reply) = askOut (e .device) (e .image) (e .map) reply
-outIn e (installed code) = installOut (e .device) (e .image) (e .map) code
+outIn e (finished code) = installOut (e .device) (e .image) (e .map) code
 
 pub call-does : (e : DeviceEnd) (c : DeviceCall Bool) → DoesAt e (inputOf c) (outIn e c)
 call-does e (given supported pcp condition message reply) =
     receive-does (e .device) (e .image) (e .map) reply supported pcp condition message
 call-does e (asked reply) = ask-does (e .device) (e .image) (e .map) reply
-call-does e (installed code) = install-does (e .device) (e .image) (e .map) code
+call-does e (finished code) = install-does (e .device) (e .image) (e .map) code
 
 pub next-is : (e : DeviceEnd) (c : DeviceCall Bool) → deviceNext e c ≡ endOf (outIn e c)
 unfolding deviceNext
 next-is e (given supported pcp condition message reply) = refl
 next-is e (asked reply) = refl
-next-is e (installed code) = refl
+next-is e (finished code) = refl
 
 pub says-is : (e : DeviceEnd) (c : DeviceCall Bool) → deviceSays e c ≡ outIn e c .says
 unfolding deviceSays aired
 says-is e (given supported pcp condition message reply) = refl
 says-is e (asked reply) = refl
-says-is e (installed code) = refl
+says-is e (finished code) = refl
 
 -- a phase to which the device moves without a word
 abbrev pub Moved : Device → (phase : ℕ) → Type 0

@@ -17,9 +17,9 @@ use Rattle.device.proofs.Sound.{sound-begun}
 use Rattle.device.proofs.Standing.{standing, standing-does, standing-under}
 use Rattle.device.proofs.Views
 use Rattle.device.proofs.Views.{Input, hears, installs, Out, spoken}
-use Rattle.gateway.specs.declared.Gateway.{Gateway}
-use Rattle.gateway.specs.Record as gateway
-use Rattle.gateway.proofs.Package.{stretch-fits, stretch-within}
+use Rattle.gateway_record.specs.declared.Gateway.{Gateway}
+use Rattle.gateway_record.specs.Record as gateway
+use Rattle.gateway_record.proofs.Package.{stretch-fits, stretch-within}
 use Rattle.upgrade.specs.Records.{DeviceEnd, World}
 use Rattle.upgrade.proofs.Air.{Air, air-none, air-one, air-map, air-more}
 use Rattle.upgrade.proofs.DeviceCalls.{endOf, DoesAt, StillAt, BeginsAt, ResumesAt, StoresAt, stillAt, begunAt, storedAt, movedAt, outcomeAt, Moved}

@@ -9,8 +9,8 @@ use Rattle.message.specs.declared.Fields.{Fields}
 use Rattle.message.specs.Messages.{DeviceMessage, query, announce, fragment, downloadReply, execute, resultReply, GatewayMessage, announceReply, resultReport}
 use Rattle.message.specs.Messages.{Reading, refused, toDevice, toGateway}
 use Rattle.codec.specs.Codec.{readOf}
-use Rattle.gateway.specs.declared.Gateway.{Gateway}
-use Rattle.gateway.specs.Record as gateway
+use Rattle.gateway_record.specs.declared.Gateway.{Gateway}
+use Rattle.gateway_record.specs.Record as gateway
 use Rattle.gateway.proofs.Views.{Served, Sayable, Says, nothing, says, Turns, stays, offers, serves, runs, fails, succeeds, received, next-said}
 use Rattle.upgrade.specs.Calls.{GatewayCall, aired, atGateway, next}
 use Rattle.upgrade.specs.Records.{gatewayNext, gatewaySays, World, records}

@@ -22,7 +22,7 @@ use Rattle.device.proofs.Views.{Input, hears, asks, installs, Out}
 use Rattle.device.proofs.Sound.{sound-fresh, sound-begun, sound-stored, sound-moved, sound-executed, sound-outcome}
 use Rattle.device.proofs.Standing.{standing, standing-under, stored-new}
 use Rattle.upgrade.specs.Fold.{after}
-use Rattle.upgrade.specs.Calls.{DeviceCall, given, asked, installed}
+use Rattle.upgrade.specs.Calls.{DeviceCall, given, asked, finished}
 use Rattle.upgrade.specs.Records.{DeviceEnd, deviceNext}
 use Rattle.upgrade.specs.Held.{Held, heldBy, heldNext, heldAfter}
 use Rattle.upgrade.proofs.DeviceCalls.{endOf, DoesAt, StillAt, BeginsAt, StoresAt, MovesAt, begunAt, storedAt, inputOf, outIn, call-does, next-is, Moved}
@@ -48,7 +48,7 @@ held-is : (e : DeviceEnd) (c : DeviceCall Bool) (h : Held) → heldNext e c h �
 unfolding heldNext heldOn
 held-is e (given supported pcp condition message reply) h = refl
 held-is e (asked reply) h = refl
-held-is e (installed code) h = refl
+held-is e (finished code) h = refl
 
 -- refused, nothing joins
 held-refused : (e : DeviceEnd) (n : ℕ) (input : Input) (h : Held) → (n ≡ 0 → ⊥) → heldOn e n input h ≡ h

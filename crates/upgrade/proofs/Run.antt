@@ -13,8 +13,8 @@ use Rattle.device_record.specs.declared.Device.{Device}
 use Rattle.device_record.specs.Record.{installing, reporting, holding}
 use Rattle.device.proofs.Sound.{Sound}
 use Rattle.device.proofs.Standing.{standing}
-use Rattle.gateway.specs.declared.Gateway.{Gateway}
-use Rattle.gateway.specs.Record as gateway
+use Rattle.gateway_record.specs.declared.Gateway.{Gateway}
+use Rattle.gateway_record.specs.Record as gateway
 use Rattle.upgrade.specs.Records.{DeviceEnd, World}
 use Rattle.upgrade.proofs.Air.{Air, air-map}
 

@@ -16,9 +16,9 @@ use Rattle.codec.specs.Codec.{sealed, frame, bytesOf, readOf, writeOf, said}
 use Rattle.bitmap.specs.Bitmap.{marked, mark, cleared, missingFrom, lowestMissing}
 use Rattle.device_record.specs.Record as device-record
 use Rattle.device.specs.Rules as device
-use Rattle.gateway.specs.Record as gateway-record
+use Rattle.gateway_record.specs.Record as gateway-record
 use Rattle.gateway.specs.Rules as gateway
-use Rattle.upgrade.specs.Calls.{installed, atDevice, atGateway, aired, next, May}
+use Rattle.upgrade.specs.Calls.{finished, atDevice, atGateway, aired, next, May}
 use Rattle.upgrade.specs.Records.{deviceNext, deviceSays, deviceNumber, gatewayNext, gatewaySays}
 use Rattle.upgrade.specs.Held.{heldBy, heldNext, heldAfter}
 use Rattle.upgrade.specs.Witnesses.{new, toldDevice, askedDevice, toldGateway, content, download, Witnesses}
@@ -69,7 +69,7 @@ witnesses =
         earlier = download;
         execution = atDevice (toldDevice execute);
         between = [];
-        installation = atDevice (installed 0x00);
+        installation = atDevice (finished 0x00);
         since = atDevice askedDevice ∷ atGateway (toldGateway (resultReport 0x00 new)) ∷ [];
         split = refl;
         executed = (refl, refl);

@@ -8,8 +8,8 @@ use Rattle.message.specs.Messages.{DeviceMessage, execute, GatewayMessage, exec
 use Rattle.codec.specs.Codec.{readOf}
 use Rattle.codec.proofs.Heard.{device-told, gateway-told}
 use Rattle.device.proofs.Views.{hears, installs, spoken}
-use Rattle.gateway.specs.Record as gateway
-use Rattle.upgrade.specs.Calls.{DeviceCall, given, asked, installed, GatewayCall, atDevice, atGateway, next, May}
+use Rattle.gateway_record.specs.Record as gateway
+use Rattle.upgrade.specs.Calls.{DeviceCall, given, asked, finished, GatewayCall, atDevice, atGateway, next, May}
 use Rattle.upgrade.specs.Records.{deviceNumber, World, records}
 use Rattle.upgrade.specs.Claims.{Executed, Installed}
 use Rattle.upgrade.proofs.Air.{Air, Heard, air-heard}
@@ -36,7 +36,7 @@ module _ (w : World) where
       let r : readOf toDevice supported pcp message ≡ found n = cc in
       air-heard toDevice device-told (w .fromGateway) air supported pcp message m n r
   device-hears (asked reply) air m = λ _ n e. absurd (let z : _≡_ {A = ℕ} 0 1 = cc in omega arith)
-  device-hears (installed code) air m = λ _ n e. absurd (let z : _≡_ {A = ℕ} 0 1 = cc in omega arith)
+  device-hears (finished code) air m = λ _ n e. absurd (let z : _≡_ {A = ℕ} 0 1 = cc in omega arith)
 
   -- ---- the two events
 
@@ -46,14 +46,14 @@ module _ (w : World) where
       let r : readOf toDevice supported pcp message ≡ found execute = cc in
       (r, says-is (w .deviceEnd) (given supported pcp condition message reply) ∙ s)
   is-executed content (asked reply) k i s = absurd (let z : _≡_ {A = ℕ} 0 1 = cc in omega arith)
-  is-executed content (installed code) k i s = absurd (let z : _≡_ {A = ℕ} 0 1 = cc in omega arith)
+  is-executed content (finished code) k i s = absurd (let z : _≡_ {A = ℕ} 0 1 = cc in omega arith)
 
   is-installed : (content : List ℕ) (c : DeviceCall Bool) → inputOf c ≡ installs 0x00 → outIn (w .deviceEnd) c .number ≡ 0
       → Installed (records content) w (atDevice c)
   unfolding deviceNumber
   is-installed content (given supported pcp condition message reply) i n = absurd (let z : _≡_ {A = ℕ} 0 1 = cc in omega arith)
   is-installed content (asked reply) i n = absurd (let z : _≡_ {A = ℕ} 0 1 = cc in omega arith)
-  is-installed content (installed code) i n = (let r : code ≡ 0x00 = cc in r, n)
+  is-installed content (finished code) i n = (let r : code ≡ 0x00 = cc in r, n)
 
 -- ---- a call
 

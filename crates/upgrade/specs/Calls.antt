@@ -7,7 +7,7 @@ use lib.Dec.{eqb}
 use lib.ListN.{take}
 use Rattle.basis.specs.Choice.{pick}
 use Rattle.device_record.specs.declared.Device.{Device}
-use Rattle.gateway.specs.declared.Gateway.{Gateway}
+use Rattle.gateway_record.specs.declared.Gateway.{Gateway}
 
 -- what an ask or a reply puts on the air: a copy of its bytes, nothing where there is none
 unfoldable pub aired : (length : ℕ) (buffer : List ℕ) → List (List ℕ)
@@ -19,7 +19,7 @@ aired length buffer = pick (eqb length 0) [] (take length buffer ∷ [])
 pub data DeviceCall (F : Type 0) : Type 0 where
   given : (supported pcp : F) (condition : ℕ) (message reply : List ℕ) → DeviceCall F
   asked : (reply : List ℕ) → DeviceCall F
-  installed : (code : ℕ) → DeviceCall F
+  finished : (code : ℕ) → DeviceCall F
 
 pub data GatewayCall (F : Type 0) : Type 0 where
   given : (supported pcp : F) (message reply : List ℕ) → GatewayCall F
@@ -29,7 +29,13 @@ pub data Call (F : Type 0) : Type 0 where
   atDevice : DeviceCall F → Call F
   atGateway : GatewayCall F → Call F
 
--- ---- an end: what it keeps from call to call, and what a call leaves, puts on the air and is answered with
+-- ---- an end: what it keeps from call to call, and what a call does
+
+-- what a call leaves of the end, what it puts on the air, and what it is answered with
+pub record Done (S : Type 0) : Type 0 where
+  pub state : S
+  pub says : List (List ℕ)
+  pub number : ℕ
 
 pub record DeviceSide (F : Type 0) : Type 1 where
   pub State : Type 0
@@ -38,16 +44,13 @@ pub record DeviceSide (F : Type 0) : Type 1 where
   pub map : State → List ℕ
   -- the same with another image, which the next call is lent
   pub lend : State → (image : List ℕ) → State
-  pub next : State → DeviceCall F → State
-  pub says : State → DeviceCall F → List (List ℕ)
-  pub number : State → DeviceCall F → ℕ
+  pub does : State → DeviceCall F → Done State
 
 -- the package is the same from call to call
 pub record GatewaySide (F : Type 0) : Type 1 where
   pub State : Type 0
   pub gateway : State → Gateway
-  pub next : State → GatewayCall F → State
-  pub says : State → GatewayCall F → List (List ℕ)
+  pub does : State → GatewayCall F → Done State
 
 pub record Ends : Type 1 where
   pub Fact : Type 0
@@ -69,24 +72,16 @@ module _ (e : Ends) where
 
   unfoldable pub next : Both → Call (e .Fact) → Both
   next w (atDevice c) =
-      record {
-        deviceEnd = e .device .next (w .deviceEnd) c;
-        gateway = w .gateway;
-        fromDevice = e .device .says (w .deviceEnd) c ++ w .fromDevice;
-        fromGateway = w .fromGateway;
-      }
+      let d : Done (e .device .State) = e .device .does (w .deviceEnd) c in
+      record { deviceEnd = d .state; gateway = w .gateway; fromDevice = d .says ++ w .fromDevice; fromGateway = w .fromGateway }
   next w (atGateway c) =
-      record {
-        deviceEnd = w .deviceEnd;
-        gateway = e .gateway .next (w .gateway) c;
-        fromDevice = w .fromDevice;
-        fromGateway = e .gateway .says (w .gateway) c ++ w .fromGateway;
-      }
+      let d : Done (e .gateway .State) = e .gateway .does (w .gateway) c in
+      record { deviceEnd = w .deviceEnd; gateway = d .state; fromDevice = w .fromDevice; fromGateway = d .says ++ w .fromGateway }
 
 -- each end is given only what the other has put on the air
 unfoldable pub May : {D G F : Type 0} → Exchange D G → Call F → Type 0
 May w (atDevice (given supported pcp condition message reply)) = List·Memᴰ message (w .fromGateway)
 May w (atDevice (asked reply)) = Unit {0}
-May w (atDevice (installed code)) = Unit {0}
+May w (atDevice (finished code)) = Unit {0}
 May w (atGateway (GatewayCall.given supported pcp message reply)) = List·Memᴰ message (w .fromDevice)
 May w (atGateway (GatewayCall.asked reply)) = Unit {0}

@@ -6,25 +6,25 @@ use lib.ListN.{length, take, drop}
 use Rattle.message.specs.Messages.{execute, executeReply, found, toDevice, toGateway}
 use Rattle.codec.specs.Codec.{bytesOf, readOf}
 use Rattle.device_record.specs.declared.Device.{Device}
-use Rattle.gateway.specs.Record as gateway
+use Rattle.gateway_record.specs.Record as gateway
 use Rattle.upgrade.specs.Fold.{after, Allowed}
-use Rattle.upgrade.specs.Calls.{given, asked, installed, Call, atDevice, atGateway, Ends, Both, next, May}
+use Rattle.upgrade.specs.Calls.{given, asked, finished, Call, atDevice, atGateway, Ends, Both, next, May}
 
 module _ (e : Ends) where
   -- The call gave the device a 23 and brought the reply 23 with 00.
   abbrev pub Executed : Both e → Call (e .Fact) → Type 0
   Executed w (atDevice (given supported pcp condition message reply)) =
       (readOf toDevice (e .fact supported) (e .fact pcp) message ≡ found execute)
-      × (e .device .says (w .deviceEnd) (given supported pcp condition message reply) ≡ bytesOf toGateway (executeReply 0x00) ∷ [])
+      × (e .device .does (w .deviceEnd) (given supported pcp condition message reply) .says ≡ bytesOf toGateway (executeReply 0x00) ∷ [])
   Executed w (atDevice (asked reply)) = ⊥
-  Executed w (atDevice (installed code)) = ⊥
+  Executed w (atDevice (finished code)) = ⊥
   Executed w (atGateway c) = ⊥
 
   -- The call was an installer's end with 00, answered 0.
   abbrev pub Installed : Both e → Call (e .Fact) → Type 0
   Installed w (atDevice (given supported pcp condition message reply)) = ⊥
   Installed w (atDevice (asked reply)) = ⊥
-  Installed w (atDevice (installed code)) = (code ≡ 0x00) × (e .device .number (w .deviceEnd) (installed code) ≡ 0)
+  Installed w (atDevice (finished code)) = (code ≡ 0x00) × (e .device .does (w .deviceEnd) (finished code) .number ≡ 0)
   Installed w (atGateway c) = ⊥
 
   -- The gateway is Ended.

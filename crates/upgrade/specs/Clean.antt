@@ -7,9 +7,9 @@ use lib.ListN.{length}
 use Rattle.basis.specs.Bytes.{same}
 use Rattle.message.specs.Limits.{deviceRoom, gatewayRoom}
 use Rattle.device_record.specs.Record.{idle, mapBytes}
-use Rattle.gateway.specs.Record as gateway
+use Rattle.gateway_record.specs.Record as gateway
 use Rattle.upgrade.specs.Fold.{Allowed}
-use Rattle.upgrade.specs.Calls.{DeviceCall, given, asked, installed, GatewayCall, Call, atDevice, atGateway, Ends, Both, next, May}
+use Rattle.upgrade.specs.Calls.{DeviceCall, given, asked, finished, GatewayCall, Call, atDevice, atGateway, Ends, Both, next, May}
 use Rattle.upgrade.specs.Records.{records, World}
 use Rattle.upgrade.specs.Claims.{Success, reached}
 use Rattle.upgrade.specs.Demand3.{Before, Ready, deviceThen, start}
@@ -35,28 +35,28 @@ module _ (e : Ends) (affirmed : e .Fact) (deviceReply gatewayReply : Both e → 
   answeredByDevice w [] = w
   answeredByDevice w (m ∷ ms) =
       let c : DeviceCall (e .Fact) = given affirmed affirmed 0 m (deviceReply w) in
-      answeredByDevice (arriveAtGateway (next e w (atDevice c)) (e .device .says (w .deviceEnd) c)) ms
+      answeredByDevice (arriveAtGateway (next e w (atDevice c)) (e .device .does (w .deviceEnd) c .says)) ms
 
   unfoldable pub answeredByGateway : Both e → List (List ℕ) → Both e
   answeredByGateway w [] = w
   answeredByGateway w (m ∷ ms) =
       let c : GatewayCall (e .Fact) = GatewayCall.given affirmed affirmed m (gatewayReply w) in
-      answeredByGateway (arriveAtDevice (next e w (atGateway c)) (e .gateway .says (w .gateway) c)) ms
+      answeredByGateway (arriveAtDevice (next e w (atGateway c)) (e .gateway .does (w .gateway) c .says)) ms
 
   -- an end is asked once
   unfoldable pub gatewayAsked : Both e → Both e
   gatewayAsked w =
       let c : GatewayCall (e .Fact) = GatewayCall.asked (gatewayReply w) in
-      answeredByDevice (next e w (atGateway c)) (e .gateway .says (w .gateway) c)
+      answeredByDevice (next e w (atGateway c)) (e .gateway .does (w .gateway) c .says)
 
   unfoldable pub deviceAsked : Both e → Both e
   deviceAsked w =
       let c : DeviceCall (e .Fact) = asked (deviceReply w) in
-      answeredByGateway (next e w (atDevice c)) (e .device .says (w .deviceEnd) c)
+      answeredByGateway (next e w (atDevice c)) (e .device .does (w .deviceEnd) c .says)
 
   -- the number with which the device answers an ask
   abbrev pub askedNumber : Both e → ℕ
-  askedNumber w = e .device .number (w .deviceEnd) (asked (deviceReply w))
+  askedNumber w = e .device .does (w .deviceEnd) (asked (deviceReply w)) .number
 
   -- the device is asked until it has nothing to send, which is 9
   pub data UntilSilent : Both e → Both e → Type 0 where
@@ -65,7 +65,7 @@ module _ (e : Ends) (affirmed : e .Fact) (deviceReply gatewayReply : Both e → 
 
   -- the gateway is asked once in Run, the installer reports 00, the device is asked once more
   abbrev pub ending : Both e → Both e
-  ending v = deviceAsked (next e (gatewayAsked v) (atDevice (installed 0x00)))
+  ending v = deviceAsked (next e (gatewayAsked v) (atDevice (finished 0x00)))
 
   -- The device falls silent, and whenever it has, the gateway is in Run and the rest of the run leaves it Ended with 0. Lists of
   -- calls that demand 3 allows lead to both states, so its claims hold of them.

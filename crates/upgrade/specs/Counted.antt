@@ -18,11 +18,11 @@ module _ {F : Type 0} (s : DeviceSide F) where
   pub record Counted (d : s .State) : Type 0 where
     pub count : loading ≤ s .device d .phase → s .device d .phase ≤ reporting → s .device d .stored ≡ setBits (s .map d) (s .device d .fields .total)
     pub record-holds : recordOk (s .device d) ≡ true
-    pub not-29 : (image : List ℕ) (c : DeviceCall F) → s .number (s .lend d image) c ≡ 29 → ⊥
+    pub not-29 : (image : List ℕ) (c : DeviceCall F) → s .does (s .lend d image) c .number ≡ 29 → ⊥
 
   -- a call, lent an image of its own
   abbrev pub lentNext : s .State → (List ℕ × DeviceCall F) → s .State
-  lentNext d (image, c) = s .next (s .lend d image) c
+  lentNext d (image, c) = s .does (s .lend d image) c .state
 
   abbrev pub CountOf : s .State → Type 0
   CountOf made = (calls : List (List ℕ × DeviceCall F)) → Counted (after lentNext made calls)
@@ -32,10 +32,10 @@ module _ {F : Type 0} (s : DeviceSide F) where
   -- What holds of a device's record with image and map, as calls left them.
   pub record Roomy (d : s .State) : Type 0 where
     pub room-holds : roomOk (s .device d) (s .image d) (s .map d) ≡ true
-    pub not-14 : (c : DeviceCall F) → s .number d c ≡ 14 → ⊥
+    pub not-14 : (c : DeviceCall F) → s .does d c .number ≡ 14 → ⊥
 
   abbrev pub RoomOf : s .State → Type 0
-  RoomOf made = (calls : List (DeviceCall F)) → Roomy (after (s .next) made calls)
+  RoomOf made = (calls : List (DeviceCall F)) → Roomy (after (λ d c. s .does d c .state) made calls)
 
 -- A fresh record and one map, then any list of calls, each with an image of its own.
 abbrev pub Count : Type 0

@@ -10,7 +10,7 @@ use Rattle.message.specs.Messages.{DeviceMessage, query, announce, fragment, do
 use Rattle.codec.specs.Codec.{readOf}
 use Rattle.message.specs.declared.Fields.{Fields}
 use Rattle.device.specs.Rules.{announceResult, resumes}
-use Rattle.upgrade.specs.Calls.{DeviceCall, given, asked, installed}
+use Rattle.upgrade.specs.Calls.{DeviceCall, given, asked, finished}
 use Rattle.upgrade.specs.Records.{DeviceEnd, deviceAnswer, deviceNext}
 
 pub record Held : Type 0 where
@@ -37,7 +37,7 @@ heldNext e (given supported pcp condition message reply) h =
     (heldBy e condition (readOf toDevice supported pcp message) h)
     h
 heldNext e (asked reply) h = h
-heldNext e (installed code) h = h
+heldNext e (finished code) h = h
 
 -- along a list of calls
 unfoldable pub heldAfter : DeviceEnd → Held → List (DeviceCall Bool) → Held

@@ -4,10 +4,11 @@ use mathlib.Core.Bool.{Bool}
 use mathlib.Core.List.{List, []}
 use Rattle.codec.specs.Codec.{Sent}
 use Rattle.device_record.specs.declared.Device.{Device}
+use Rattle.device.specs.declared.Finished.{Finished}
 use Rattle.device.specs.Rules as device
-use Rattle.gateway.specs.declared.Gateway.{Gateway}
+use Rattle.gateway_record.specs.declared.Gateway.{Gateway}
 use Rattle.gateway.specs.Rules as gateway
-use Rattle.upgrade.specs.Calls.{aired, DeviceCall, given, asked, installed, GatewayCall, DeviceSide, GatewaySide, Ends, Exchange}
+use Rattle.upgrade.specs.Calls.{aired, DeviceCall, given, asked, finished, GatewayCall, Done, DeviceSide, GatewaySide, Ends, Exchange}
 
 -- ---- the device, with image and map as the last call left them
 
@@ -16,32 +17,24 @@ pub record DeviceEnd : Type 0 where
   pub image : List ℕ
   pub map : List ℕ
 
--- what a message that is given leaves, and what an ask gives
+-- what a message that is given leaves
 abbrev pub deviceAnswer : DeviceEnd → (supported pcp : Bool) (condition : ℕ) (message reply : List ℕ) → device.After
 deviceAnswer e supported pcp condition message reply =
     device.receiveOf (e .device) (e .image) (e .map) reply supported pcp condition message
 
-abbrev pub deviceSent : DeviceEnd → (reply : List ℕ) → Sent
-deviceSent e reply = device.nextMessageOf (e .device) (e .image) (e .map) reply
-
-unfoldable pub deviceNext : DeviceEnd → DeviceCall Bool → DeviceEnd
-deviceNext e (given supported pcp condition message reply) =
+unfoldable pub deviceDoes : DeviceEnd → DeviceCall Bool → Done DeviceEnd
+deviceDoes e (given supported pcp condition message reply) =
     let a : device.After = deviceAnswer e supported pcp condition message reply in
-    record { device = a .device; image = a .image; map = a .map }
-deviceNext e (asked reply) = e
-deviceNext e (installed code) = record { device = device.installFinishedOf (e .device) code .device; image = e .image; map = e .map }
+    record { state = record { device = a .device; image = a .image; map = a .map }; says = aired (a .length) (a .reply); number = a .number }
+deviceDoes e (asked reply) =
+    let s : Sent = device.nextMessageOf (e .device) (e .image) (e .map) reply in
+    record { state = e; says = aired (s .length) (s .buffer); number = s .number }
+deviceDoes e (finished code) =
+    let f : Finished = device.installFinishedOf (e .device) code in
+    record { state = record { device = f .device; image = e .image; map = e .map }; says = []; number = f .number }
 
-unfoldable pub deviceSays : DeviceEnd → DeviceCall Bool → List (List ℕ)
-deviceSays e (given supported pcp condition message reply) =
-    let a : device.After = deviceAnswer e supported pcp condition message reply in
-    aired (a .length) (a .reply)
-deviceSays e (asked reply) = aired (deviceSent e reply .length) (deviceSent e reply .buffer)
-deviceSays e (installed code) = []
-
-unfoldable pub deviceNumber : DeviceEnd → DeviceCall Bool → ℕ
-deviceNumber e (given supported pcp condition message reply) = deviceAnswer e supported pcp condition message reply .number
-deviceNumber e (asked reply) = deviceSent e reply .number
-deviceNumber e (installed code) = device.installFinishedOf (e .device) code .number
+abbrev pub deviceNext : DeviceEnd → DeviceCall Bool → DeviceEnd
+deviceNext e c = deviceDoes e c .state
 
 abbrev pub deviceRecords : DeviceSide Bool
 deviceRecords =
@@ -51,33 +44,28 @@ deviceRecords =
       image = λ e. e .image;
       map = λ e. e .map;
       lend = λ e image. record { device = e .device; image = image; map = e .map };
-      next = deviceNext;
-      says = deviceSays;
-      number = deviceNumber;
+      does = deviceDoes;
     }
 
 -- ---- the gateway, with its package
 
 module _ (content : List ℕ) where
-  unfoldable pub gatewayNext : Gateway → GatewayCall Bool → Gateway
-  gatewayNext g (GatewayCall.given supported pcp message reply) = gateway.receiveOf g content reply supported pcp message .gateway
-  gatewayNext g (GatewayCall.asked reply) = g
-
-  unfoldable pub gatewaySays : Gateway → GatewayCall Bool → List (List ℕ)
-  gatewaySays g (GatewayCall.given supported pcp message reply) =
+  unfoldable pub gatewayDoes : Gateway → GatewayCall Bool → Done Gateway
+  gatewayDoes g (GatewayCall.given supported pcp message reply) =
       let a : gateway.After = gateway.receiveOf g content reply supported pcp message in
-      aired (a .length) (a .reply)
-  gatewaySays g (GatewayCall.asked reply) =
+      record { state = a .gateway; says = aired (a .length) (a .reply); number = a .number }
+  gatewayDoes g (GatewayCall.asked reply) =
       let s : Sent = gateway.nextMessageOf g content reply in
-      aired (s .length) (s .buffer)
+      record { state = g; says = aired (s .length) (s .buffer); number = s .number }
 
-  abbrev pub gatewayRecords : GatewaySide Bool
-  gatewayRecords = record { State = Gateway; gateway = λ g. g; next = gatewayNext; says = gatewaySays }
+  abbrev pub gatewayNext : Gateway → GatewayCall Bool → Gateway
+  gatewayNext g c = gatewayDoes g c .state
 
   -- ---- both
 
   abbrev pub records : Ends
-  records = record { Fact = Bool; fact = λ yes. yes; device = deviceRecords; gateway = gatewayRecords }
+  records =
+      record { Fact = Bool; fact = λ yes. yes; device = deviceRecords; gateway = record { State = Gateway; gateway = λ g. g; does = gatewayDoes } }
 
 abbrev pub World : Type 0
 World = Exchange DeviceEnd Gateway

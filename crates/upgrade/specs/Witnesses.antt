@@ -11,9 +11,9 @@ use Rattle.message.specs.Messages.{resultReport, toDevice, toGateway}
 use Rattle.checksum.specs.Check.{checkOf}
 use Rattle.codec.specs.Codec.{bytesOf}
 use Rattle.device_record.specs.Record.{loading}
-use Rattle.gateway.specs.Record as gateway
+use Rattle.gateway_record.specs.Record as gateway
 use Rattle.upgrade.specs.Fold.{Allowed}
-use Rattle.upgrade.specs.Calls.{DeviceCall, given, asked, installed, GatewayCall, Call, atDevice, atGateway, next, May}
+use Rattle.upgrade.specs.Calls.{DeviceCall, given, asked, finished, GatewayCall, Call, atDevice, atGateway, next, May}
 use Rattle.upgrade.specs.Records.{records, World}
 use Rattle.upgrade.specs.Claims.{Success, reached, InstalledBefore}
 use Rattle.upgrade.specs.Demand3.{Before, deviceThen, gatewayThen, heldThen, Ready, start}
@@ -85,7 +85,7 @@ abbrev pub calls : List (Call Bool)
 calls =
     download
     ++ (atDevice (toldDevice execute)
-    ∷ atDevice (installed 0x00)
+    ∷ atDevice (finished 0x00)
     ∷ atDevice askedDevice
     ∷ atGateway (toldGateway (resultReport 0x00 new))
     ∷ [])

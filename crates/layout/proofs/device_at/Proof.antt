@@ -1,5 +1,5 @@
--- `layout::device_at` meets its contract: each field is read at its place. Assumes nothing.
 use Rattle.layout.specs.Layout.{deviceAt}
+-- `layout::device_at` meets its contract: each field is read at its place. Assumes nothing.
 use borrow.Author.Needs.{needs}
 use Rattle.layout.proofs.device_at.Statement.{statement}
 use Rattle.layout.proofs.device_at.Tie as tie
@@ -7,8 +7,11 @@ use Rattle.layout.proofs.device_at.Tie as tie
 version-at-requires : tie.Need-version-at-requires
 version-at-requires c κs = search needs
 
-version-at-requires-2 : tie.Need-version-at-requires-2
-version-at-requires-2 c κs = search needs
+fields-at-requires : tie.Need-fields-at-requires
+fields-at-requires c κs = search needs
+
+byte-at-requires : tie.Need-byte-at-requires
+byte-at-requires c κs = search needs
 
 word-at-requires : tie.Need-word-at-requires
 word-at-requires c κs = search needs
@@ -16,32 +19,17 @@ word-at-requires c κs = search needs
 word-at-requires-2 : tie.Need-word-at-requires-2
 word-at-requires-2 c κs = search needs
 
-word-at-requires-3 : tie.Need-word-at-requires-3
-word-at-requires-3 c κs = search needs
-
-byte-at-requires : tie.Need-byte-at-requires
-byte-at-requires c κs = search needs
-
-word-at-requires-4 : tie.Need-word-at-requires-4
-word-at-requires-4 c κs = search needs
-
-word-at-requires-5 : tie.Need-word-at-requires-5
-word-at-requires-5 c κs = search needs
-
 byte-at-requires-2 : tie.Need-byte-at-requires-2
 byte-at-requires-2 c κs = search needs
 
 returns : tie.Need-returns
 unfolding deviceAt
 returns c = rw (
-  c .before .before .before .before .before .before .before .before .version-at .ensures,
-  c .before .before .before .before .before .before .before .version-at2 .ensures,
-  c .before .before .before .before .before .before .word-at .ensures,
-  c .before .before .before .before .before .word-at2 .ensures,
-  c .before .before .before .before .word-at3 .ensures,
+  c .before .before .before .before .before .version-at .ensures,
+  c .before .before .before .before .fields-at .ensures,
   c .before .before .before .byte-at .ensures,
-  c .before .before .word-at4 .ensures,
-  c .before .word-at5 .ensures,
+  c .before .before .word-at .ensures,
+  c .before .word-at2 .ensures,
   c .byte-at2 .ensures,
 )
 
@@ -50,12 +38,9 @@ device-at-spec =
     tie.close
     (tie.spec
     version-at-requires
-    version-at-requires-2
+    fields-at-requires
+    byte-at-requires
     word-at-requires
     word-at-requires-2
-    word-at-requires-3
-    byte-at-requires
-    word-at-requires-4
-    word-at-requires-5
     byte-at-requires-2
     returns)

@@ -12,8 +12,8 @@ walk-from-requires c κs = tt
 enum-known-step : tie.Need-enum-known-step
 enum-known-step c = search needs
 
-part-at-requires : tie.Need-part-at-requires
-part-at-requires c κs = tt
+part-of-requires : tie.Need-part-of-requires
+part-of-requires c κs = tt
 
 give-requires : tie.Need-give-requires
 give-requires c κs = c .before .before .before .before .before .before .before .before .before .before .before .before .before .before .before .pre
@@ -65,7 +65,7 @@ returns c =
     .walk-from .ensures)
     (c .before .before .before .before .before .before .before .before .before .before .before .before .before .before .if1 .taken)
     (c .before .before .before .before .before .before .before .before .before .before .before .before .before .before .before .before .step .given .1) _
-    (c .before .before .before .before .before .before .before .before .before .before .before .before .before .part-at .ensures .bytes)
+    (c .before .before .before .before .before .before .before .before .before .before .before .before .before .part-of .ensures .bytes)
     (c .before .before .before .before .before .before .before .before .give .result)
     (c .before .before .before .before .before .before .before .before .give .ensures)
 
@@ -99,7 +99,7 @@ carry-out-spec =
     (tie.spec
     walk-from-requires
     enum-known-step
-    part-at-requires
+    part-of-requires
     give-requires
     enum-told
     stopped-requires
