@@ -83,14 +83,20 @@ module _ (t : Table) (s p : Bool) (m : List ℕ) where
       same-part (t .content candidate) (drop 8 m) starts ∙ behind (length (t .content candidate)) m long in
       rw (← e, z, by-length) (pick-yes (eqb 0 0) _ (refused 0) refl)
 
+  -- what is read, by the test that the code makes of a candidate r
+  abbrev pub Tested : Reading (t .Message) → (valid : Bool) (len : ℕ) → Type 0
+  Tested r valid len =
+      ((valid && eqb (8 + len) (length m)) ≡ true → r ≡ readOf t s p m) × ((valid && eqb (8 + len) (length m)) ≡ false → refused 8 ≡ readOf t s p m)
+
   -- the candidate as the code has it, r, with what the code tests of it
   module _ (n : ℕ) (b : Bytes m) (starts : Starts (drop 8 m) (t .content candidate)) (e : n ≡ recognition s p m) (z : n ≡ 0)
       (r : Reading (t .Message)) (valid : Bool) (len : ℕ) (is : r ≡ found candidate) (v : valid ≡ validOf t r) (l : len ≡ length (dataOf t r)) where
     told : (valid && eqb (8 + len) (length m)) ≡ (t .valid candidate && eqb (8 + length (t .content candidate)) (length m))
     told = rw (v, l, is)
 
-    pub read-found : (valid && eqb (8 + len) (length m)) ≡ true → r ≡ readOf t s p m
-    read-found h = is ∙ sym (read-by n b starts e z ∙ pick-yes _ (found candidate) (refused 8) (sym told ∙ h))
-
-    pub read-bad : (valid && eqb (8 + len) (length m)) ≡ false → refused 8 ≡ readOf t s p m
-    read-bad h = sym (read-by n b starts e z ∙ pick-no _ (found candidate) (refused 8) (sym told ∙ h))
+    -- kept where the test holds, bad where it fails
+    pub read-tested : Tested r valid len
+    read-tested = (
+      λ h. is ∙ sym (read-by n b starts e z ∙ pick-yes _ (found candidate) (refused 8) (sym told ∙ h)),
+      λ h. sym (read-by n b starts e z ∙ pick-no _ (found candidate) (refused 8) (sym told ∙ h)),
+    )

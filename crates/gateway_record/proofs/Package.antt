@@ -93,6 +93,11 @@ starts version size content checked =
     record { made = refl; version-good = v; size-ok = k; length-ok = l })
     (λ t z. absurd (eqb-false n 0 t z))
 
+-- the fields that such a start announces
+pub started-fields : (version : List ℕ) (size : ℕ) (content : List ℕ) (code : ℕ) {s : Started} → StartedOn version size content code s
+    → s .gateway .fields ≡ record { version = version; size = size; total = totalOf (length content) size; code = code }
+started-fields version size content code s = rw (s .made, pick-yes (lengthOk (length content) size) _ 0 (s .length-ok))
+
 -- the total that such a start announces
 pub start-total : (version : List ℕ) (size : ℕ) (content : List ℕ) (checked : Bool) → startOf version size content checked .number ≡ 0
     → startOf version size content checked .gateway .fields .total ≡ totalOf (length content) size

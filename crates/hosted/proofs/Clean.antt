@@ -9,13 +9,15 @@ use Rattle.device_record.specs.Record.{mapBytes}
 use Rattle.gateway_record.specs.Record.{totalOf}
 use Rattle.pcp.specs.Exports.{fact, textOf}
 use Rattle.upgrade.specs.Calls.{DeviceCall, given, asked, finished, GatewayCall, Call, atDevice, atGateway, Ends, next}
-use Rattle.upgrade.specs.Records.{DeviceEnd, deviceSays, deviceNumber, gatewaySays, records, World}
+use Rattle.upgrade.specs.Records.{DeviceEnd, records, World}
+use Rattle.upgrade.proofs.Ends.{deviceSays, deviceNumber, gatewaySays}
 use Rattle.upgrade.specs.Demand3.{deviceThen, start}
 use Rattle.upgrade.specs.Clean.{Reached, arriveAtDevice, arriveAtGateway, answeredByDevice, answeredByGateway, gatewayAsked, deviceAsked, UntilSilent, silent}
 use Rattle.upgrade.specs.Clean.{spoken, ending, CleanStart, CleanRunOf}
 use Rattle.upgrade.proofs.CleanAllowed.{reached-start, gateway-asked, until-silent, at-end}
 use Rattle.upgrade.proofs.CleanRun.{clean-run}
-use Rattle.hosted.specs.Hosts.{deviceHostSays, deviceHostNumber, gatewayHostSays, hosts, Hosts, Fitting, deviceSeen, seen, callAs}
+use Rattle.hosted.specs.Hosts.{hosts, Hosts, Fitting, deviceSeen, seen, callAs}
+use Rattle.hosted.proofs.HostEnds.{deviceHostSays, deviceHostNumber, gatewayHostSays}
 use Rattle.hosted.specs.Hosted.{HostedBefore, deviceHostThen, hostedStart, recordsBefore, HostedCleanStart, HostedCleanRun}
 use Rattle.hosted.proofs.Runs.{device-says, device-number-is, gateway-says, still-fitting, one-call}
 use Rattle.hosted.proofs.Demand3.{device-then, fitting, started-there, ready}

@@ -10,16 +10,17 @@ use Rattle.codec.specs.Codec.{Sent}
 use Rattle.device.specs.Rules as device
 use Rattle.gateway.specs.Rules as gateway
 use Rattle.layout.specs.Layout.{kept, deviceAt, deviceLength, gatewayAt, gatewayLength}
-use Rattle.pcp.specs.Exports.{fact, packed, Left, Asked, DeviceGiven, GatewayGiven, deviceKept, gatewayKept, deviceReceiveOf, deviceNextMessageOf}
+use Rattle.pcp.specs.Exports.{askAnswer, fact, packed, Left, Asked, DeviceGiven, GatewayGiven, deviceKept, gatewayKept, deviceReceiveOf, deviceNextMessageOf}
 use Rattle.pcp.specs.Exports.{deviceInstallFinishedOf, gatewayReceiveOf, gatewayNextMessageOf}
-use Rattle.pcp.specs.Exports as exports
 use Rattle.pcp.specs.Boundary.{numberIn, lengthIn}
 use Rattle.pcp.proofs.Calls.{long-enough}
 use Rattle.pcp.proofs.Refusals.{device-number, device-ask-number, gateway-number, gateway-ask-number}
 use Rattle.pcp.proofs.Carrying.{records-carried}
 use Rattle.upgrade.specs.Calls.{aired, DeviceCall, given, asked, finished, GatewayCall, Call, atDevice, atGateway, next}
-use Rattle.upgrade.specs.Records.{deviceNext, deviceSays, deviceNumber, gatewayNext, gatewaySays, records}
-use Rattle.hosted.specs.Hosts.{DeviceHost, deviceHostNext, deviceHostSays, deviceHostNumber, deviceSeen, gatewayHostNext, gatewayHostSays, hosts, Hosts}
+use Rattle.upgrade.specs.Records.{deviceNext, gatewayNext, records, deviceDoes, gatewayDoes}
+use Rattle.upgrade.proofs.Ends.{deviceSays, deviceNumber, gatewaySays}
+use Rattle.hosted.specs.Hosts.{DeviceHost, deviceHostNext, deviceSeen, gatewayHostNext, hosts, Hosts, deviceHostDoes, gatewayHostDoes}
+use Rattle.hosted.proofs.HostEnds.{deviceHostSays, deviceHostNumber, gatewayHostSays}
 use Rattle.hosted.specs.Hosts.{Fitting, seen, deviceCallAs, gatewayCallAs, callAs, HostedRuns}
 use Rattle.hosted.proofs.Shown.{shown}
 
@@ -40,8 +41,22 @@ kept-room room new bytes h =
 -- ---- the device's host
 
 module _ (h : DeviceHost) where
+  -- a message given, where the record has room: what the call over the record leaves
+  received-is : (supported pcp condition : ℕ) (message reply : List ℕ) → deviceLength ≤ length (h .bytes)
+      → let a : device.After = device.receiveOf (deviceAt (h .bytes)) (h .image) (h .map) reply (fact supported) (fact pcp) condition message in
+      deviceReceiveOf (h .bytes) (h .image) (h .map) reply supported pcp condition message
+      ≡ record {
+        answer = packed (a .number) (a .length);
+        bytes = deviceKept (h .bytes) (a .device);
+        image = a .image;
+        map = a .map;
+        reply = a .reply;
+      }
+  unfolding deviceReceiveOf
+  received-is supported pcp condition message reply r = sym (long-enough deviceLength (h .bytes) _ _ r)
+
   pub device-room : (c : DeviceCall ℕ) → deviceLength ≤ length (h .bytes) → deviceLength ≤ length (deviceHostNext h c .bytes)
-  unfolding deviceHostNext deviceReceiveOf deviceInstallFinishedOf
+  unfolding deviceHostDoes deviceReceiveOf deviceInstallFinishedOf
   device-room (given supported pcp condition message reply) r =
       by-cases (λ (g : DeviceGiven). deviceLength ≤ length (g .bytes)) (λ _. kept-room deviceLength _ (h .bytes) r) (λ _. r)
   device-room (asked reply) r = r
@@ -49,20 +64,10 @@ module _ (h : DeviceHost) where
       by-cases (λ (k : Left). deviceLength ≤ length (k .bytes)) (λ _. kept-room deviceLength _ (h .bytes) r) (λ _. r)
 
   pub device-next : (c : DeviceCall ℕ) → deviceLength ≤ length (h .bytes) → deviceSeen (deviceHostNext h c) ≡ deviceNext (deviceSeen h) (deviceCallAs fact c)
-  unfolding deviceHostNext deviceNext deviceReceiveOf deviceInstallFinishedOf
+  unfolding deviceHostDoes deviceDoes deviceReceiveOf deviceInstallFinishedOf
   device-next (given supported pcp condition message reply) r =
-      let a : device.After = device.receiveOf (deviceAt (h .bytes)) (h .image) (h .map) reply (fact supported) (fact pcp) condition message in
-      let e : deviceReceiveOf (h .bytes) (h .image) (h .map) reply supported pcp condition message
-      ≡ record {
-        answer = packed (a .number) (a .length);
-        bytes = deviceKept (h .bytes) (a .device);
-        image = a .image;
-        map = a .map;
-        reply = a .reply;
-      } =
-      sym (long-enough deviceLength (h .bytes) _ _ r) in
-      let d : deviceAt (deviceReceiveOf (h .bytes) (h .image) (h .map) reply supported pcp condition message .bytes) ≡ a .device =
-      records-carried .device-receive (h .bytes) (h .image) (h .map) reply supported pcp condition message r in
+      let e = received-is supported pcp condition message reply r in
+      let d = records-carried .device-receive (h .bytes) (h .image) (h .map) reply supported pcp condition message r in
       λ i. record { device = d i; image = e i .image; map = e i .map }
   device-next (asked reply) r = refl
   device-next (finished code) r =
@@ -71,31 +76,23 @@ module _ (h : DeviceHost) where
       λ i. record { device = d i; image = h .image; map = h .map }
 
   pub device-says : (c : DeviceCall ℕ) → deviceLength ≤ length (h .bytes) → deviceHostSays h c ≡ deviceSays (deviceSeen h) (deviceCallAs fact c)
-  unfolding deviceHostSays deviceSays deviceReceiveOf deviceNextMessageOf
+  unfolding deviceHostDoes deviceDoes deviceReceiveOf deviceNextMessageOf
   device-says (given supported pcp condition message reply) r =
       let a : device.After = device.receiveOf (deviceAt (h .bytes)) (h .image) (h .map) reply (fact supported) (fact pcp) condition message in
-      let e : deviceReceiveOf (h .bytes) (h .image) (h .map) reply supported pcp condition message
-      ≡ record {
-        answer = packed (a .number) (a .length);
-        bytes = deviceKept (h .bytes) (a .device);
-        image = a .image;
-        map = a .map;
-        reply = a .reply;
-      } =
-      sym (long-enough deviceLength (h .bytes) _ _ r) in
+      let e = received-is supported pcp condition message reply r in
       ap (λ (g : DeviceGiven). aired (lengthIn (g .answer)) (g .reply)) e
       ∙ ap (λ (k : ℕ). aired k (a .reply))
       (length-in (a .number) (a .length) (device-number (deviceAt (h .bytes)) (h .image) (h .map) reply (fact supported) (fact pcp) condition message))
   device-says (asked reply) r =
       let s : Sent = device.nextMessageOf (deviceAt (h .bytes)) (h .image) (h .map) reply in
-      let e : deviceNextMessageOf (h .bytes) (h .image) (h .map) reply ≡ exports.asked s = sym (long-enough deviceLength (h .bytes) _ _ r) in
+      let e : deviceNextMessageOf (h .bytes) (h .image) (h .map) reply ≡ askAnswer s = sym (long-enough deviceLength (h .bytes) _ _ r) in
       ap (λ (g : Asked). aired (lengthIn (g .answer)) (g .reply)) e
       ∙ ap (λ (k : ℕ). aired k (s .buffer))
       (length-in (s .number) (s .length) (device-ask-number (deviceAt (h .bytes)) (h .image) (h .map) reply))
   device-says (finished code) r = refl
 
   pub device-number-is : (c : DeviceCall ℕ) → deviceLength ≤ length (h .bytes) → deviceHostNumber h c ≡ deviceNumber (deviceSeen h) (deviceCallAs fact c)
-  unfolding deviceHostNumber deviceNumber deviceReceiveOf deviceNextMessageOf deviceInstallFinishedOf
+  unfolding deviceHostDoes deviceDoes deviceReceiveOf deviceNextMessageOf deviceInstallFinishedOf
   device-number-is (given supported pcp condition message reply) r =
       let a : device.After = device.receiveOf (deviceAt (h .bytes)) (h .image) (h .map) reply (fact supported) (fact pcp) condition message in
       ap (λ (g : DeviceGiven). numberIn (g .answer)) (sym (long-enough deviceLength (h .bytes) _ _ r))
@@ -110,20 +107,20 @@ module _ (h : DeviceHost) where
 
 module _ (content bytes : List ℕ) where
   pub gateway-room : (c : GatewayCall ℕ) → gatewayLength ≤ length bytes → gatewayLength ≤ length (gatewayHostNext content bytes c)
-  unfolding gatewayHostNext gatewayReceiveOf
+  unfolding gatewayHostDoes gatewayReceiveOf
   gateway-room (GatewayCall.given supported pcp message reply) r =
       by-cases (λ (g : GatewayGiven). gatewayLength ≤ length (g .bytes)) (λ _. kept-room gatewayLength _ bytes r) (λ _. r)
   gateway-room (GatewayCall.asked reply) r = r
 
   pub gateway-next : (c : GatewayCall ℕ) → gatewayLength ≤ length bytes
       → gatewayAt (gatewayHostNext content bytes c) ≡ gatewayNext content (gatewayAt bytes) (gatewayCallAs fact c)
-  unfolding gatewayHostNext gatewayNext
+  unfolding gatewayHostDoes gatewayDoes
   gateway-next (GatewayCall.given supported pcp message reply) r = records-carried .gateway-receive bytes content reply supported pcp message r
   gateway-next (GatewayCall.asked reply) r = refl
 
   pub gateway-says : (c : GatewayCall ℕ) → gatewayLength ≤ length bytes
       → gatewayHostSays content bytes c ≡ gatewaySays content (gatewayAt bytes) (gatewayCallAs fact c)
-  unfolding gatewayHostSays gatewaySays gatewayReceiveOf gatewayNextMessageOf
+  unfolding gatewayHostDoes gatewayDoes gatewayReceiveOf gatewayNextMessageOf
   gateway-says (GatewayCall.given supported pcp message reply) r =
       let a : gateway.After = gateway.receiveOf (gatewayAt bytes) content reply (fact supported) (fact pcp) message in
       let e : gatewayReceiveOf bytes content reply supported pcp message
@@ -134,7 +131,7 @@ module _ (content bytes : List ℕ) where
       (length-in (a .number) (a .length) (gateway-number (gatewayAt bytes) content reply (fact supported) (fact pcp) message))
   gateway-says (GatewayCall.asked reply) r =
       let s : Sent = gateway.nextMessageOf (gatewayAt bytes) content reply in
-      let e : gatewayNextMessageOf bytes content reply ≡ exports.asked s = sym (long-enough gatewayLength bytes _ _ r) in
+      let e : gatewayNextMessageOf bytes content reply ≡ askAnswer s = sym (long-enough gatewayLength bytes _ _ r) in
       ap (λ (g : Asked). aired (lengthIn (g .answer)) (g .reply)) e
       ∙ ap (λ (k : ℕ). aired k (s .buffer)) (length-in (s .number) (s .length) (gateway-ask-number (gatewayAt bytes) content reply))
 

@@ -18,10 +18,10 @@ use Rattle.gateway_record.specs.Record as gateway-record
 use Rattle.gateway.specs.Rules as gateway
 use Rattle.layout.specs.Layout.{kept, deviceBytes, deviceAt, gatewayBytes, gatewayAt}
 use Rattle.pcp.specs.Exports.{textOf, deviceNewOf, deviceReceiveOf, gatewayStartOf, gatewayReceiveOf}
-use Rattle.upgrade.specs.Records.{deviceNext, gatewayNext}
+use Rattle.upgrade.specs.Records.{deviceDoes, gatewayDoes}
 use Rattle.upgrade.specs.Held.{heldBy, heldNext, heldAfter}
 use Rattle.upgrade.proofs.Witnessed.{first-only}
-use Rattle.hosted.specs.Hosts.{deviceHostNext, gatewayHostNext}
+use Rattle.hosted.specs.Hosts.{deviceHostDoes, gatewayHostDoes}
 use Rattle.hosted.specs.Witnesses.{HostedWitnesses}
 
 pub hosted-witnesses : HostedWitnesses
@@ -36,8 +36,8 @@ unfolding pick refusal oneOf part same over patched doubled entryOf step registe
     device.completion device.executeResult gateway-record.totalOf gateway-record.lengthOk gateway-record.fragmentOf gateway-record.startOf
     gateway-record.recordOk gateway.asked gateway.serving gateway.fragmentReply gateway.onQueryReply gateway.onAnnounceReply
     gateway.onFragmentRequest gateway.onDownloadReport gateway.onExecuteReply gateway.onResultReport gateway.handle gateway.receiveOf
-    gateway.wanted gateway.nextMessageOf deviceNext gatewayNext heldBy heldNext heldAfter deviceNewOf deviceReceiveOf gatewayStartOf
-    gatewayReceiveOf textOf kept deviceBytes deviceAt gatewayBytes gatewayAt deviceHostNext gatewayHostNext
+    gateway.wanted gateway.nextMessageOf deviceDoes gatewayDoes heldBy heldNext heldAfter deviceNewOf deviceReceiveOf gatewayStartOf
+    gatewayReceiveOf textOf kept deviceBytes deviceAt gatewayBytes gatewayAt deviceHostDoes gatewayHostDoes
 hosted-witnesses =
     record {
       clean = record {

@@ -4,11 +4,11 @@ use mathlib.Core.Path.{_≡_}
 use mathlib.Core.List.{List, [], map}
 use lib.ListN.{length}
 use Rattle.layout.specs.Layout.{deviceAt, deviceLength, gatewayAt, gatewayLength}
-use Rattle.pcp.specs.Exports.{fact, Asked, DeviceGiven, GatewayGiven, deviceReceiveOf, deviceNextMessageOf, deviceInstallFinishedOf, gatewayReceiveOf}
-use Rattle.pcp.specs.Exports.{gatewayNextMessageOf}
+use Rattle.pcp.specs.Exports.{fact, Left, Asked, DeviceGiven, GatewayGiven, deviceReceiveOf, deviceNextMessageOf, deviceInstallFinishedOf}
+use Rattle.pcp.specs.Exports.{gatewayReceiveOf, gatewayNextMessageOf}
 use Rattle.pcp.specs.Boundary.{numberIn, lengthIn}
 use Rattle.upgrade.specs.Fold.{after}
-use Rattle.upgrade.specs.Calls.{aired, DeviceCall, given, asked, finished, GatewayCall, Call, atDevice, atGateway, DeviceSide, GatewaySide, Ends, Exchange}
+use Rattle.upgrade.specs.Calls.{aired, DeviceCall, given, asked, finished, GatewayCall, Call, atDevice, atGateway, Done, DeviceSide, Ends, Exchange}
 use Rattle.upgrade.specs.Calls.{next}
 use Rattle.upgrade.specs.Records.{DeviceEnd, records, World}
 
@@ -19,32 +19,24 @@ pub record DeviceHost : Type 0 where
   pub image : List ℕ
   pub map : List ℕ
 
--- what the exports leave and answer
-abbrev pub hostGiven : DeviceHost → (supported pcp condition : ℕ) (message reply : List ℕ) → DeviceGiven
-hostGiven h supported pcp condition message reply = deviceReceiveOf (h .bytes) (h .image) (h .map) reply supported pcp condition message
+-- what it puts on the air is as many bytes as the answer says
+unfoldable pub deviceHostDoes : DeviceHost → DeviceCall ℕ → Done DeviceHost
+deviceHostDoes h (given supported pcp condition message reply) =
+    let g : DeviceGiven = deviceReceiveOf (h .bytes) (h .image) (h .map) reply supported pcp condition message in
+    record {
+      state = record { bytes = g .bytes; image = g .image; map = g .map };
+      says = aired (lengthIn (g .answer)) (g .reply);
+      number = numberIn (g .answer);
+    }
+deviceHostDoes h (asked reply) =
+    let a : Asked = deviceNextMessageOf (h .bytes) (h .image) (h .map) reply in
+    record { state = h; says = aired (lengthIn (a .answer)) (a .reply); number = numberIn (a .answer) }
+deviceHostDoes h (finished code) =
+    let l : Left = deviceInstallFinishedOf (h .bytes) code in
+    record { state = record { bytes = l .bytes; image = h .image; map = h .map }; says = []; number = l .answer }
 
-abbrev pub hostAsked : DeviceHost → (reply : List ℕ) → Asked
-hostAsked h reply = deviceNextMessageOf (h .bytes) (h .image) (h .map) reply
-
-unfoldable pub deviceHostNext : DeviceHost → DeviceCall ℕ → DeviceHost
-deviceHostNext h (given supported pcp condition message reply) =
-    let g : DeviceGiven = hostGiven h supported pcp condition message reply in
-    record { bytes = g .bytes; image = g .image; map = g .map }
-deviceHostNext h (asked reply) = h
-deviceHostNext h (finished code) = record { bytes = deviceInstallFinishedOf (h .bytes) code .bytes; image = h .image; map = h .map }
-
--- what it puts on the air: as many bytes as the answer says
-unfoldable pub deviceHostSays : DeviceHost → DeviceCall ℕ → List (List ℕ)
-deviceHostSays h (given supported pcp condition message reply) =
-    let g : DeviceGiven = hostGiven h supported pcp condition message reply in
-    aired (lengthIn (g .answer)) (g .reply)
-deviceHostSays h (asked reply) = aired (lengthIn (hostAsked h reply .answer)) (hostAsked h reply .reply)
-deviceHostSays h (finished code) = []
-
-unfoldable pub deviceHostNumber : DeviceHost → DeviceCall ℕ → ℕ
-deviceHostNumber h (given supported pcp condition message reply) = numberIn (hostGiven h supported pcp condition message reply .answer)
-deviceHostNumber h (asked reply) = numberIn (hostAsked h reply .answer)
-deviceHostNumber h (finished code) = deviceInstallFinishedOf (h .bytes) code .answer
+abbrev pub deviceHostNext : DeviceHost → DeviceCall ℕ → DeviceHost
+deviceHostNext h c = deviceHostDoes h c .state
 
 abbrev pub deviceHosts : DeviceSide ℕ
 deviceHosts =
@@ -54,33 +46,28 @@ deviceHosts =
       image = λ h. h .image;
       map = λ h. h .map;
       lend = λ h image. record { bytes = h .bytes; image = image; map = h .map };
-      next = deviceHostNext;
-      says = deviceHostSays;
-      number = deviceHostNumber;
+      does = deviceHostDoes;
     }
 
 -- ---- the gateway's host: its record's bytes, beside the package
 
 module _ (content : List ℕ) where
-  unfoldable pub gatewayHostNext : List ℕ → GatewayCall ℕ → List ℕ
-  gatewayHostNext bytes (GatewayCall.given supported pcp message reply) = gatewayReceiveOf bytes content reply supported pcp message .bytes
-  gatewayHostNext bytes (GatewayCall.asked reply) = bytes
-
-  unfoldable pub gatewayHostSays : List ℕ → GatewayCall ℕ → List (List ℕ)
-  gatewayHostSays bytes (GatewayCall.given supported pcp message reply) =
+  unfoldable pub gatewayHostDoes : List ℕ → GatewayCall ℕ → Done (List ℕ)
+  gatewayHostDoes bytes (GatewayCall.given supported pcp message reply) =
       let g : GatewayGiven = gatewayReceiveOf bytes content reply supported pcp message in
-      aired (lengthIn (g .answer)) (g .reply)
-  gatewayHostSays bytes (GatewayCall.asked reply) =
+      record { state = g .bytes; says = aired (lengthIn (g .answer)) (g .reply); number = numberIn (g .answer) }
+  gatewayHostDoes bytes (GatewayCall.asked reply) =
       let a : Asked = gatewayNextMessageOf bytes content reply in
-      aired (lengthIn (a .answer)) (a .reply)
+      record { state = bytes; says = aired (lengthIn (a .answer)) (a .reply); number = numberIn (a .answer) }
 
-  abbrev pub gatewayHosts : GatewaySide ℕ
-  gatewayHosts = record { State = List ℕ; gateway = gatewayAt; next = gatewayHostNext; says = gatewayHostSays }
+  abbrev pub gatewayHostNext : List ℕ → GatewayCall ℕ → List ℕ
+  gatewayHostNext bytes c = gatewayHostDoes bytes c .state
 
   -- ---- both
 
   abbrev pub hosts : Ends
-  hosts = record { Fact = ℕ; fact = fact; device = deviceHosts; gateway = gatewayHosts }
+  hosts =
+      record { Fact = ℕ; fact = fact; device = deviceHosts; gateway = record { State = List ℕ; gateway = gatewayAt; does = gatewayHostDoes } }
 
 abbrev pub Hosts : Type 0
 Hosts = Exchange DeviceHost (List ℕ)

@@ -16,18 +16,18 @@ use Rattle.device_record.specs.declared.Made.{Made}
 use Rattle.device_record.specs.Record.{newOf}
 use Rattle.device.specs.declared.Answer.{Answer}
 use Rattle.device.specs.declared.Finished.{Finished}
-use Rattle.device.specs.declared.Said.{Said}
-use Rattle.device.specs.Coded.{afterCall, afterAsk}
+use Rattle.codec.specs.declared.Written.{Written}
+use Rattle.codec.specs.Coded.{sent}
+use Rattle.device.specs.Answers.{afterCall}
 use Rattle.device.specs.Rules as device
 use Rattle.gateway_record.specs.declared.Gateway.{Gateway}
 use Rattle.gateway_record.specs.declared.Started.{Started}
 use Rattle.gateway.specs.declared.Answer as gateway-answer
-use Rattle.gateway.specs.declared.Said as gateway-said
 use Rattle.gateway_record.specs.Record.{startOf}
-use Rattle.gateway.specs.Coded as coded
+use Rattle.gateway.specs.Answers as gateway-answers
 use Rattle.gateway.specs.Rules as gateway
 use Rattle.layout.specs.Layout.{deviceAt, deviceLength, gatewayAt, gatewayLength}
-use Rattle.pcp.specs.Exports.{fact, packed, textOf, Left, Asked, DeviceGiven, GatewayGiven, asked, deviceNewOf, deviceReceiveOf, deviceNextMessageOf}
+use Rattle.pcp.specs.Exports.{fact, packed, textOf, Left, Asked, DeviceGiven, GatewayGiven, askAnswer, deviceNewOf, deviceReceiveOf, deviceNextMessageOf}
 use Rattle.pcp.specs.Exports.{deviceInstallFinishedOf, deviceKept, gatewayKept, gatewayStartOf, gatewayReceiveOf, gatewayNextMessageOf}
 use Rattle.pcp.proofs.Fits.{device-reply-short, device-ask-short, gateway-reply-fits, gateway-ask-fits}
 
@@ -81,12 +81,12 @@ module _ (bytes after : List ℕ) (room : deviceLength ≤ length bytes) where
       ∙ long-enough deviceLength bytes _ _ room
 
 module _ (bytes image map reply : List ℕ) (d : Device) (at : d ≡ deviceAt bytes) where
-  pub device-asked : (reply′ : List ℕ) (r : ℕ) (s : Said) → deviceLength ≤ length bytes
-      → afterAsk s reply′ ≡ device.nextMessageOf d image map reply → r ≡ packed (s .number) (s .length)
+  pub device-asked : (reply′ : List ℕ) (r : ℕ) (s : Written) → deviceLength ≤ length bytes
+      → sent s reply′ ≡ device.nextMessageOf d image map reply → r ≡ packed (s .number) (s .length)
       → _≡_ {A = Asked} (record { answer = r; reply = reply′ }) (deviceNextMessageOf bytes image map reply)
   unfolding deviceNextMessageOf
   device-asked reply′ r s room e p =
-      (λ i. record { answer = p i; reply = reply′ }) ∙ ap asked (e ∙ ap (λ (d : Device). device.nextMessageOf d image map reply) at)
+      (λ i. record { answer = p i; reply = reply′ }) ∙ ap askAnswer (e ∙ ap (λ (d : Device). device.nextMessageOf d image map reply) at)
       ∙ long-enough deviceLength bytes _ _ room
 
   -- lengths that fit an answer
@@ -97,7 +97,7 @@ module _ (bytes image map reply : List ℕ) (d : Device) (at : d ≡ deviceAt by
       let h = device-reply-short d (ap (λ (d : Device). length (d .running)) at ∙ length-part bytes 1 16) image map reply supported pcp condition message in
       omega (arith, h, ap (λ (n : device.After). n .length) e)
 
-  pub device-ask-below : (reply′ : List ℕ) (s : Said) → afterAsk s reply′ ≡ device.nextMessageOf d image map reply → s .length < 65536
+  pub device-ask-below : (reply′ : List ℕ) (s : Written) → sent s reply′ ≡ device.nextMessageOf d image map reply → s .length < 65536
   unfolding deviceAt
   device-ask-below reply′ s e =
       let h = device-ask-short d (ap (λ (d : Device). length (d .running)) at ∙ length-part bytes 1 16) image map reply
@@ -118,7 +118,7 @@ module _ (bytes after : List ℕ) (room : gatewayLength ≤ length bytes) where
       ∙ long-enough gatewayLength bytes _ _ room
 
   pub gateway-given : (content reply reply′ message : List ℕ) (supported pcp r : ℕ) (g : Gateway) (a : gateway-answer.Answer) → g ≡ gatewayAt bytes
-      → coded.after a reply′ ≡ gateway.receiveOf g content reply (fact supported) (fact pcp) message
+      → gateway-answers.afterCall a reply′ ≡ gateway.receiveOf g content reply (fact supported) (fact pcp) message
       → after ≡ gatewayKept bytes (a .gateway) → r ≡ packed (a .number) (a .length)
       → _≡_ {A = GatewayGiven} (record { answer = r; bytes = after; reply = reply′ }) (gatewayReceiveOf bytes content reply supported pcp message)
   unfolding gatewayReceiveOf
@@ -133,22 +133,22 @@ module _ (bytes after : List ℕ) (room : gatewayLength ≤ length bytes) where
       ∙ long-enough gatewayLength bytes _ _ room
 
 module _ (bytes content reply : List ℕ) (g : Gateway) (at : g ≡ gatewayAt bytes) where
-  pub gateway-asked : (reply′ : List ℕ) (r : ℕ) (s : gateway-said.Said) → gatewayLength ≤ length bytes
-      → coded.saidInto s reply′ ≡ gateway.nextMessageOf g content reply → r ≡ packed (s .number) (s .length)
+  pub gateway-asked : (reply′ : List ℕ) (r : ℕ) (s : Written) → gatewayLength ≤ length bytes
+      → sent s reply′ ≡ gateway.nextMessageOf g content reply → r ≡ packed (s .number) (s .length)
       → _≡_ {A = Asked} (record { answer = r; reply = reply′ }) (gatewayNextMessageOf bytes content reply)
   unfolding gatewayNextMessageOf
   gateway-asked reply′ r s room e p =
-      (λ i. record { answer = p i; reply = reply′ }) ∙ ap asked (e ∙ ap (λ (g : Gateway). gateway.nextMessageOf g content reply) at)
+      (λ i. record { answer = p i; reply = reply′ }) ∙ ap askAnswer (e ∙ ap (λ (g : Gateway). gateway.nextMessageOf g content reply) at)
       ∙ long-enough gatewayLength bytes _ _ room
 
   -- lengths that fit an answer
   pub gateway-reply-below : (reply′ message : List ℕ) (supported pcp : Bool) (a : gateway-answer.Answer)
-      → coded.after a reply′ ≡ gateway.receiveOf g content reply supported pcp message → a .length < 65536
+      → gateway-answers.afterCall a reply′ ≡ gateway.receiveOf g content reply supported pcp message → a .length < 65536
   gateway-reply-below reply′ message supported pcp a e =
       omega (arith, gateway-reply-fits g content reply supported pcp message, ap (λ (n : gateway.After). n .length) e)
 
-  pub gateway-ask-below : (reply′ : List ℕ) (s : gateway-said.Said) → coded.saidInto s reply′ ≡ gateway.nextMessageOf g content reply → s .length < 65536
+  pub gateway-ask-below : (reply′ : List ℕ) (s : Written) → sent s reply′ ≡ gateway.nextMessageOf g content reply → s .length < 65536
   unfolding gatewayAt
   gateway-ask-below reply′ s e =
-      let h = gateway-ask-fits g content reply (ap (λ (g : Gateway). length (g .version)) at ∙ length-part bytes 2 16) in
+      let h = gateway-ask-fits g content reply (ap (λ (g : Gateway). length (g .fields .version)) at ∙ length-part bytes 2 16) in
       omega (arith, h, ap (λ (n : Sent). n .length) e)

@@ -23,8 +23,9 @@ use Rattle.gateway_record.specs.declared.Gateway.{Gateway}
 use Rattle.gateway_record.specs.declared.Started.{Started}
 use Rattle.gateway_record.specs.Record.{startOf}
 use Rattle.gateway.specs.Rules as gateway
+use Rattle.gateway.proofs.Views.{receive-keeps, receive-keeps-length}
 use Rattle.layout.specs.Layout.{deviceAt, deviceLength, gatewayAt, gatewayLength}
-use Rattle.layout.specs.Identity.{DeviceTexts}
+use Rattle.layout.specs.Identity.{DeviceTexts, GatewayWhole}
 use Rattle.layout.proofs.Identity.{identity}
 use Rattle.layout.proofs.Layouts.{kept-new}
 use Rattle.pcp.specs.Exports.{fact, textOf, Left, DeviceGiven, GatewayGiven, deviceNewOf, deviceReceiveOf, deviceInstallFinishedOf, deviceKept}
@@ -105,37 +106,21 @@ at-texts bytes = record { running = length-part bytes 1 16; target = length-part
 carried : (bytes : List ℕ) (e : Device) → deviceLength ≤ length bytes → DeviceTexts e → deviceAt (deviceKept bytes e) ≡ e
 carried bytes e room s = ap deviceAt (kept-new deviceLength _ bytes room) ∙ identity .device-kept e bytes s
 
-gateway-carried : (bytes : List ℕ) (e : Gateway) → gatewayLength ≤ length bytes → length (e .version) ≡ 16 → gatewayAt (gatewayKept bytes e) ≡ e
-gateway-carried bytes e room s = ap gatewayAt (kept-new gatewayLength _ bytes room) ∙ identity .gateway-kept e bytes s
+gateway-carried : (bytes : List ℕ) (e : Gateway) → gatewayLength ≤ length bytes → GatewayWhole e → gatewayAt (gatewayKept bytes e) ≡ e
+gateway-carried bytes e room w = ap gatewayAt (kept-new gatewayLength _ bytes room) ∙ identity .gateway-kept e bytes w
 
--- ---- the gateway's text stays
+-- ---- the gateway's fields and length stay
 
-module _ (g : Gateway) (content reply : List ℕ) where
-  Q : gateway.After → Type 0
-  Q a = a .gateway .version ≡ g .version
+received-whole : (g : Gateway) (content reply : List ℕ) → GatewayWhole g → (supported pcp : Bool) (message : List ℕ)
+    → GatewayWhole (gateway.receiveOf g content reply supported pcp message .gateway)
+received-whole g content reply w supported pcp message =
+    let f = receive-keeps g content reply supported pcp message in
+    let l = receive-keeps-length g content reply supported pcp message in
+    record { target = rw f (w .target); fields = rw (f, l) (w .fields) }
 
-  handled-version : (r : Reading GatewayMessage) → Q (gateway.handle g content reply r)
-  unfolding Q gateway.handle gateway.onQueryReply gateway.onAnnounceReply gateway.onFragmentRequest gateway.onDownloadReport gateway.onExecuteReply
-      gateway.onResultReport gateway.asked
-  handled-version (refused n) = refl
-  handled-version (found (queryReply result version)) =
-      by-cases Q (λ _. by-cases (λ (h : Gateway). h .version ≡ g .version) (λ _. refl) (λ _. refl)) (λ _. refl)
-  handled-version (found (announceReply result)) =
-      by-cases Q (λ _. by-cases (λ (h : Gateway). h .version ≡ g .version) (λ _. refl) (λ _. refl)) (λ _. refl)
-  handled-version (found (fragmentRequest version index)) = refl
-  handled-version (found (downloadReport result)) =
-      by-cases Q (λ _. by-cases (λ (h : Gateway). h .version ≡ g .version) (λ _. refl) (λ _. refl)) (λ _. by-cases Q (λ _. refl) (λ _. refl))
-  handled-version (found (executeReply result)) =
-      by-cases Q (λ _. by-cases (λ (h : Gateway). h .version ≡ g .version) (λ _. refl) (λ _. refl)) (λ _. refl)
-  handled-version (found (resultReport result version)) = by-cases Q (λ _. refl) (λ _. refl)
-
-  received-version : (supported pcp : Bool) (message : List ℕ) → gateway.receiveOf g content reply supported pcp message .gateway .version ≡ g .version
-  unfolding Q gateway.receiveOf
-  received-version supported pcp message = by-cases Q (λ _. handled-version (readOf toGateway supported pcp message)) (λ _. refl)
-
-gateway-at-text : (bytes : List ℕ) → length (gatewayAt bytes .version) ≡ 16
+gateway-at-whole : (bytes : List ℕ) → GatewayWhole (gatewayAt bytes)
 unfolding gatewayAt
-gateway-at-text bytes = length-part bytes 2 16
+gateway-at-whole bytes = record { target = length-part bytes 2 16; fields = refl }
 
 -- ---- every call
 
@@ -144,11 +129,11 @@ unfolding newOf
 made-texts version e =
     by-cases (λ (m : Made). DeviceTexts (m .device)) (λ _. record { running = e; target = e }) (λ _. record { running = refl; target = refl })
 
-started-text : (version : List ℕ) (size : ℕ) (content : List ℕ) (checked : Bool) → length version ≡ 16
-    → length (startOf version size content checked .gateway .version) ≡ 16
+started-whole : (version : List ℕ) (size : ℕ) (content : List ℕ) (checked : Bool) → length version ≡ 16
+    → GatewayWhole (startOf version size content checked .gateway)
 unfolding startOf
-started-text version size content checked e =
-    by-cases (λ (s : Started). length (s .gateway .version) ≡ 16) (λ _. e) (λ _. refl)
+started-whole version size content checked e =
+    by-cases (λ (s : Started). GatewayWhole (s .gateway)) (λ _. record { target = e; fields = refl }) (λ _. record { target = refl; fields = refl })
 
 -- where there is room, a call is not refused with 64
 with-room : {A : Type 0} (P : A → Type 0) (need : ℕ) (bytes : List ℕ) (a b : A) → need ≤ length bytes → P a → P (pick (leb need (length bytes)) a b)
@@ -171,9 +156,9 @@ records-carried =
       gateway-start = λ bytes version size content checked room e.
           with-room (λ (k : Left). gatewayAt (k .bytes) ≡ startOf (textOf version) size content (fact checked) .gateway) gatewayLength bytes _ _ room
           (ap gatewayAt (pick-yes _ _ bytes (eq-eqb _ 0 e)) ∙ gateway-carried bytes _ room
-          (started-text (textOf version) size content _ (text-length version)));
+          (started-whole (textOf version) size content _ (text-length version)));
       gateway-receive = λ bytes content reply supported pcp message room.
           with-room (λ (g : GatewayGiven). gatewayAt (g .bytes)
           ≡ gateway.receiveOf (gatewayAt bytes) content reply (fact supported) (fact pcp) message .gateway) gatewayLength bytes _ _ room
-          (gateway-carried bytes _ room (ap length (received-version (gatewayAt bytes) content reply _ _ message) ∙ gateway-at-text bytes));
+          (gateway-carried bytes _ room (received-whole (gatewayAt bytes) content reply (gateway-at-whole bytes) _ _ message));
     }

@@ -16,9 +16,9 @@ use Rattle.codec.proofs.Frames.{length-frame}
 use Rattle.device_record.specs.declared.Device.{Device}
 use Rattle.device.specs.Rules as device
 use Rattle.gateway_record.specs.declared.Gateway.{Gateway}
-use Rattle.gateway_record.specs.Record.{fragmentOf, offered, callRefusal}
+use Rattle.gateway_record.specs.Record.{fragmentOf, callRefusal}
 use Rattle.gateway.specs.Rules as gateway
-use Rattle.gateway.proofs.Saying.{told}
+use Rattle.gateway_record.proofs.Records.{told}
 
 spoken-length : (t : Table) (m : t .Message) → length (bytesOf t m) ≡ 8 + length (t .content m)
 unfolding bytesOf
@@ -86,19 +86,19 @@ module _ (g : Gateway) (content reply : List ℕ) where
   Fits : gateway.After → Type 0
   Fits a = a .length ≤ gatewayRoom
 
-  fragment-fits : (version : List ℕ) (index : ℕ) → g .size ≤ sizeMax
+  fragment-fits : (version : List ℕ) (index : ℕ) → g .fields .size ≤ sizeMax
       → length (bytesOf toDevice (gateway.fragmentReply g content version index)) ≤ gatewayRoom
   unfolding gateway.fragmentReply deviceData fragmentOf
   fragment-fits version index h =
       by-cases P
-      (λ _. by-cases P (λ _. spoken-fits (fragment 0x00 index (fragmentOf content (g .size) index)) (simp length-take (omega arith)))
+      (λ _. by-cases P (λ _. spoken-fits (fragment 0x00 index (fragmentOf content (g .fields .size) index)) (simp length-take (omega arith)))
       (λ _. spoken-fits (fragment 0x81 index []) (omega arith)))
       (λ _. spoken-fits (fragment 0x80 index []) (omega arith))
     where
       P : DeviceMessage → Type 0
       P m = length (bytesOf toDevice m) ≤ gatewayRoom
 
-  handled-fits : g .size ≤ sizeMax → (r : Reading GatewayMessage) → Fits (gateway.handle g content reply r)
+  handled-fits : g .fields .size ≤ sizeMax → (r : Reading GatewayMessage) → Fits (gateway.handle g content reply r)
   unfolding Fits gateway.handle gateway.onQueryReply gateway.onAnnounceReply gateway.onFragmentRequest gateway.onDownloadReport gateway.onExecuteReply
       gateway.onResultReport deviceData
   handled-fits h (refused n) = omega arith
@@ -113,7 +113,7 @@ module _ (g : Gateway) (content reply : List ℕ) where
       by-cases Fits (λ _. spoken-fits (resultReply 0x00) (omega arith)) (λ _. spoken-fits (resultReply 0x80) (omega arith))
 
   -- behind the guard the size is in range
-  sized : callRefusal g (length content) (length reply) ≡ 0 → g .size ≤ sizeMax
+  sized : callRefusal g (length content) (length reply) ≡ 0 → g .fields .size ≤ sizeMax
   sized e = told g (passed 28 _ _ (passed 14 _ _ e .1) .0) .high
 
   pub gateway-reply-fits : (supported pcp : Bool) (message : List ℕ) → gateway.receiveOf g content reply supported pcp message .length ≤ gatewayRoom
@@ -124,11 +124,11 @@ module _ (g : Gateway) (content reply : List ℕ) where
   AskFits : Reading DeviceMessage → Type 0
   AskFits r = said toDevice r reply .length ≤ gatewayRoom
 
-  pub gateway-ask-fits : length (g .version) ≡ 16 → gateway.nextMessageOf g content reply .length ≤ gatewayRoom
+  pub gateway-ask-fits : length (g .fields .version) ≡ 16 → gateway.nextMessageOf g content reply .length ≤ gatewayRoom
   unfolding AskFits gateway.nextMessageOf gateway.wanted said deviceData
   gateway-ask-fits target =
       by-cases AskFits
       (λ _. by-cases AskFits (λ _. spoken-fits query (omega arith))
-      (λ _. by-cases AskFits (λ _. spoken-fits (announce (offered g)) (simp length-append (omega arith)))
+      (λ _. by-cases AskFits (λ _. spoken-fits (announce (g .fields)) (simp length-append (omega arith)))
       (λ _. by-cases AskFits (λ _. spoken-fits execute (omega arith)) (λ _. omega arith))))
       (λ _. omega arith)

@@ -23,7 +23,7 @@ use Rattle.gateway.specs.Rules as gateway
 use Rattle.layout.specs.Layout.{deviceAt, deviceLength, gatewayAt, gatewayLength}
 use Rattle.layout.proofs.Identity.{identity}
 use Rattle.layout.proofs.Layouts.{kept-new}
-use Rattle.pcp.specs.Exports.{packed, Left, Asked, DeviceGiven, GatewayGiven, asked, deviceNewOf, deviceReceiveOf, deviceNextMessageOf}
+use Rattle.pcp.specs.Exports.{packed, Left, Asked, DeviceGiven, GatewayGiven, askAnswer, deviceNewOf, deviceReceiveOf, deviceNextMessageOf}
 use Rattle.pcp.specs.Exports.{deviceInstallFinishedOf, deviceKept, gatewayKept, gatewayStartOf, gatewayReceiveOf, gatewayNextMessageOf}
 use Rattle.pcp.specs.Boundary.{lengthIn, Refused, Demand1}
 
@@ -131,7 +131,7 @@ module _ (t : Table) (reply : List ℕ) where
   Unsaid : Asked → Type 0
   Unsaid a = Refused (a .answer) → (lengthIn (a .answer) ≡ 0) × (a .reply ≡ reply)
 
-  said-refused : (r : Reading (t .Message)) → Small r → Unsaid (asked (said t r reply))
+  said-refused : (r : Reading (t .Message)) → Small r → Unsaid (askAnswer (said t r reply))
   unfolding Unsaid said
   said-refused (found m) small h = absurd (h (omega arith))
   said-refused (refused n) small h = (omega arith, refl)
@@ -152,7 +152,7 @@ module _ (d : Device) (image map reply : List ℕ) where
       by-cases Small (λ _. by-cases Small (λ _. tt) (λ _. omega arith))
       (λ _. by-cases Small (λ _. tt) (λ _. by-cases Small (λ _. tt) (λ _. by-cases Small (λ _. tt) (λ _. omega arith))))
 
-  device-ask-refused : Unsaid toGateway reply (asked (device.nextMessageOf d image map reply))
+  device-ask-refused : Unsaid toGateway reply (askAnswer (device.nextMessageOf d image map reply))
   unfolding device.nextMessageOf
   device-ask-refused =
       said-refused toGateway reply _
@@ -169,7 +169,7 @@ module _ (g : Gateway) (content reply : List ℕ) where
   unfolding gateway.wanted
   gateway-wanted = by-cases Small (λ _. tt) (λ _. by-cases Small (λ _. tt) (λ _. by-cases Small (λ _. tt) (λ _. omega arith)))
 
-  gateway-ask-refused : Unsaid toDevice reply (asked (gateway.nextMessageOf g content reply))
+  gateway-ask-refused : Unsaid toDevice reply (askAnswer (gateway.nextMessageOf g content reply))
   unfolding gateway.nextMessageOf
   gateway-ask-refused =
       said-refused toDevice reply _

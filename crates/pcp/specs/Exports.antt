@@ -56,8 +56,8 @@ pub record GatewayGiven : Type 0 where
   pub reply : List ℕ
 
 -- what an ask answers
-abbrev pub asked : Sent → Asked
-asked s = record { answer = packed (s .number) (s .length); reply = s .buffer }
+abbrev pub askAnswer : Sent → Asked
+askAnswer s = record { answer = packed (s .number) (s .length); reply = s .buffer }
 
 -- ---- the device
 
@@ -93,7 +93,7 @@ module _ (bytes : List ℕ) where
 
   unfoldable pub deviceNextMessageOf : (image map reply : List ℕ) → Asked
   deviceNextMessageOf image map reply =
-      pick deviceFits (asked (device.nextMessageOf (deviceAt bytes) image map reply)) (record { answer = shortRecord; reply = reply })
+      pick deviceFits (askAnswer (device.nextMessageOf (deviceAt bytes) image map reply)) (record { answer = shortRecord; reply = reply })
 
   unfoldable pub deviceInstallFinishedOf : (code : ℕ) → Left
   deviceInstallFinishedOf code =
@@ -127,4 +127,4 @@ module _ (bytes : List ℕ) where
 
   unfoldable pub gatewayNextMessageOf : (content reply : List ℕ) → Asked
   gatewayNextMessageOf content reply =
-      pick gatewayFits (asked (gateway.nextMessageOf (gatewayAt bytes) content reply)) (record { answer = shortRecord; reply = reply })
+      pick gatewayFits (askAnswer (gateway.nextMessageOf (gatewayAt bytes) content reply)) (record { answer = shortRecord; reply = reply })

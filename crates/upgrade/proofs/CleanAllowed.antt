@@ -52,14 +52,14 @@ module _ (e : Ends) (start : Both e) where
     device-said w [] n i = i
     device-said w (m ∷ ms) n i =
         let c : DeviceCall (e .Fact) = given affirmed affirmed 0 m (deviceReply w) in
-        device-said (next e w (atDevice c)) ms n (Memᴰ·append-right (e .device .says (w .deviceEnd) c) i)
+        device-said (next e w (atDevice c)) ms n (Memᴰ·append-right (e .device .does (w .deviceEnd) c .says) i)
 
     gateway-said : (w : Both e) (ms : List (List ℕ)) → Aired (w .fromGateway) (atGatewayThen w ms .fromGateway)
     unfolding arriveAtGateway next
     gateway-said w [] n i = i
     gateway-said w (m ∷ ms) n i =
         let c : GatewayCall (e .Fact) = GatewayCall.given affirmed affirmed m (gatewayReply w) in
-        gateway-said (next e w (atGateway c)) ms n (Memᴰ·append-right (e .gateway .says (w .gateway) c) i)
+        gateway-said (next e w (atGateway c)) ms n (Memᴰ·append-right (e .gateway .does (w .gateway) c .says) i)
 
     -- ---- and their replies
 
@@ -70,7 +70,7 @@ module _ (e : Ends) (start : Both e) where
     by-device w (m ∷ ms) h r =
         let c : DeviceCall (e .Fact) = given affirmed affirmed 0 m (deviceReply w) in
         let v : Both e = next e w (atDevice c) in
-        let said : List (List ℕ) = e .device .says (w .deviceEnd) c in
+        let said : List (List ℕ) = e .device .does (w .deviceEnd) c .says in
         by-device (atGatewayThen v said) ms (λ n i. gateway-said v said n (h n (List·Memᴰ·tail i)))
         (at-gateway v said (λ n i. Memᴰ·append-left (w .fromDevice) i) (reached-next w (atDevice c) r (h m (List·Memᴰ·head refl))))
 
@@ -81,7 +81,7 @@ module _ (e : Ends) (start : Both e) where
     by-gateway w (m ∷ ms) h r =
         let c : GatewayCall (e .Fact) = GatewayCall.given affirmed affirmed m (gatewayReply w) in
         let v : Both e = next e w (atGateway c) in
-        let said : List (List ℕ) = e .gateway .says (w .gateway) c in
+        let said : List (List ℕ) = e .gateway .does (w .gateway) c .says in
         by-gateway (atDeviceThen v said) ms (λ n i. device-said v said n (h n (List·Memᴰ·tail i)))
         (at-device v said (λ n i. Memᴰ·append-left (w .fromGateway) i) (reached-next w (atGateway c) r (h m (List·Memᴰ·head refl))))
 
@@ -91,14 +91,14 @@ module _ (e : Ends) (start : Both e) where
     unfolding gatewayAsked next May
     gateway-asked w r =
         let c : GatewayCall (e .Fact) = GatewayCall.asked (gatewayReply w) in
-        by-device (next e w (atGateway c)) (e .gateway .says (w .gateway) c) (λ n i. Memᴰ·append-left (w .fromGateway) i)
+        by-device (next e w (atGateway c)) (e .gateway .does (w .gateway) c .says) (λ n i. Memᴰ·append-left (w .fromGateway) i)
         (reached-next w (atGateway c) r tt)
 
     device-asked : (w : Both e) → Reached e start w → Reached e start (deviceAsked e affirmed deviceReply gatewayReply w)
     unfolding deviceAsked next May
     device-asked w r =
         let c : DeviceCall (e .Fact) = asked (deviceReply w) in
-        by-gateway (next e w (atDevice c)) (e .device .says (w .deviceEnd) c) (λ n i. Memᴰ·append-left (w .fromDevice) i)
+        by-gateway (next e w (atDevice c)) (e .device .does (w .deviceEnd) c .says) (λ n i. Memᴰ·append-left (w .fromDevice) i)
         (reached-next w (atDevice c) r tt)
 
     pub until-silent : {w v : Both e} → UntilSilent e affirmed deviceReply gatewayReply w v → Reached e start w → Reached e start v

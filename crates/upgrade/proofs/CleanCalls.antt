@@ -25,7 +25,8 @@ use Rattle.gateway_record.specs.declared.Gateway.{Gateway}
 use Rattle.gateway_record.specs.Record as gateway
 use Rattle.gateway.specs.Rules as gateway-rules
 use Rattle.upgrade.specs.Calls.{aired, DeviceCall, given, asked, GatewayCall, atDevice, atGateway, next}
-use Rattle.upgrade.specs.Records.{DeviceEnd, deviceAnswer, deviceNext, deviceSays, deviceNumber, gatewayNext, gatewaySays, World, records}
+use Rattle.upgrade.specs.Records.{DeviceEnd, deviceAnswer, deviceNext, World, records, deviceDoes, gatewayDoes}
+use Rattle.upgrade.proofs.Ends.{deviceSays, gatewaySays}
 use Rattle.upgrade.proofs.Count.{any, Fine, call-fine}
 use Rattle.upgrade.proofs.CleanSetting.{Setting, gatewayIn, gateway-good}
 use Rattle.upgrade.specs.Clean.{arriveAtDevice, arriveAtGateway, answeredByDevice, answeredByGateway, gatewayAsked, deviceAsked, askedNumber}
@@ -109,16 +110,16 @@ module _ (s : Setting) where
 
       device-says : (m : GatewayMessage) → device-rules.wanted (e .device) (e .map) ≡ found m
           → deviceSays (w .deviceEnd) (asked (s .deviceReply w)) ≡ bytesOf toGateway m ∷ []
-      unfolding deviceSays said
+      unfolding deviceDoes said
       device-says m q = rw (device-sends (found m) q) (aired-message toGateway m (s .deviceReply w))
 
       pub device-number : (r : Reading GatewayMessage) → device-rules.wanted (e .device) (e .map) ≡ r
           → askedNumber (records (s .content)) true (s .deviceReply) (s .gatewayReply) w ≡ said toGateway r (s .deviceReply w) .number
-      unfolding deviceNumber
+      unfolding deviceDoes
       device-number r q = ap (λ (sent : Sent). sent .number) (device-sends r q)
 
       device-asked : At (afterDevice (asked (s .deviceReply w))) e g
-      unfolding next deviceNext
+      unfolding next deviceDoes
       device-asked = record { device-is = here .device-is; gateway-is = here .gateway-is; sound = here .sound }
 
       -- it is given a message
@@ -129,12 +130,12 @@ module _ (s : Setting) where
 
         device-replies : {a : List (List ℕ)} → ((reply : List ℕ) → aired (deviceTakes e m reply .length) (deviceTakes e m reply .reply) ≡ a)
             → deviceSays (w .deviceEnd) (givenDevice m) ≡ a
-        unfolding deviceSays
+        unfolding deviceDoes
         device-replies r =
             ap (λ (x : DeviceEnd). deviceSays x (givenDevice m)) (here .device-is) ∙ rw device-hears (r (s .deviceReply w))
 
         device-given : {d : DeviceEnd} → ((reply : List ℕ) → left (deviceTakes e m reply) ≡ d) → At (afterDevice (givenDevice m)) d g
-        unfolding next deviceNext
+        unfolding next deviceDoes
         device-given {d = d} t =
             let then : deviceNext e (givenDevice m) ≡ d = ap left device-hears ∙ t (s .deviceReply w) in
             record {
@@ -151,13 +152,13 @@ module _ (s : Setting) where
       -- it is asked
       gateway-says : (m : DeviceMessage) → gateway-rules.wanted (gatewayIn s phase) ≡ found m
           → gatewaySays (s .content) (w .gateway) (GatewayCall.asked (s .gatewayReply w)) ≡ bytesOf toDevice m ∷ []
-      unfolding gatewaySays gateway-rules.nextMessageOf refusal pick said
+      unfolding gatewayDoes gateway-rules.nextMessageOf refusal pick said
       gateway-says m q =
           ap (λ (x : Gateway). gatewaySays (s .content) x (GatewayCall.asked (s .gatewayReply w))) (here .gateway-is)
           ∙ rw (gateway-roomy, gateway-good s phase known, same-length, q) (aired-message toDevice m (s .gatewayReply w))
 
       gateway-asked : At (afterGateway (GatewayCall.asked (s .gatewayReply w))) e (gatewayIn s phase)
-      unfolding next gatewayNext
+      unfolding next gatewayDoes
       gateway-asked = record { device-is = here .device-is; gateway-is = here .gateway-is; sound = here .sound }
 
       -- it is given a message
@@ -172,11 +173,11 @@ module _ (s : Setting) where
         gateway-replies : {h : Gateway} (n : DeviceMessage)
             → ((reply : List ℕ) → gatewayTakes phase m reply ≡ gateway-rules.replied (gatewayIn s phase) (s .content) reply h n)
             → gatewaySays (s .content) (w .gateway) (givenGateway m) ≡ bytesOf toDevice n ∷ []
-        unfolding gatewaySays
+        unfolding gatewayDoes
         gateway-replies n r = rw (gateway-hears, r (s .gatewayReply w)) (aired-message toDevice n (s .gatewayReply w))
 
         gateway-given : {h : Gateway} → ((reply : List ℕ) → gatewayTakes phase m reply .gateway ≡ h) → At (afterGateway (givenGateway m)) e h
-        unfolding next gatewayNext
+        unfolding next gatewayDoes
         gateway-given t =
             record {
               device-is = here .device-is;

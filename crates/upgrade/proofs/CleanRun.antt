@@ -1,10 +1,11 @@
 -- The clean run leaves the gateway Ended with 0: the records that any calls before the start leave are a setting of it. Assumes nothing.
 use Prim.Native.Nat.{ℕ}
 use native.Mathlib.Omega.{arith}
-use mathlib.Core.Path.{_≡_, refl, _∙_, ap, ap₂}
+use mathlib.Core.Path.{_≡_, refl, sym, _∙_, ap, ap₂}
 use mathlib.Core.Bool.{Bool, true, false, _||_}
 use mathlib.Core.List.{List, [], _∷_}
 use lib.Dec.{eqb}
+use lib.ListN.{length}
 use borrow.Author.Tests.{eq-eqb, lt-ltb}
 use Rattle.basis.specs.Choice.{pick}
 use Rattle.basis.proofs.Choosing.{by-cases}
@@ -14,13 +15,14 @@ use Rattle.checksum.proofs.Register.{check-fits}
 use Rattle.message.specs.Limits.{isWord}
 use Rattle.message.specs.Messages.{GatewayMessage, Reading}
 use Rattle.device.specs.Rules.{passes}
+use Rattle.message.specs.declared.Fields.{Fields}
 use Rattle.gateway_record.specs.declared.Gateway.{Gateway}
 use Rattle.gateway_record.specs.Record as gateway
 use Rattle.gateway.proofs.Views.{Turns, stays, offers, serves, runs, fails, succeeds, received}
-use Rattle.gateway_record.proofs.Package.{Begun, starts}
+use Rattle.gateway_record.proofs.Package.{StartedOn, starts, started-fields}
 use Rattle.upgrade.specs.Fold.{after}
 use Rattle.upgrade.specs.Calls.{GatewayCall, Ends}
-use Rattle.upgrade.specs.Records.{gatewayNext, World, records}
+use Rattle.upgrade.specs.Records.{gatewayNext, World, records, gatewayDoes}
 use Rattle.upgrade.specs.Demand3.{Before, deviceThen, gatewayThen, start}
 use Rattle.upgrade.specs.Clean.{CleanStart, Reached, CleanRun}
 use Rattle.upgrade.proofs.Count.{made-fine, run-fine}
@@ -45,7 +47,7 @@ module _ (content : List ℕ) (g : Gateway) where
   unended-turn h k heard (succeeds p m e) u = rw e (λ not. absurd (not refl))
 
   unended-next : (h : Gateway) (c : GatewayCall Bool) → Unended g h → Unended g (gatewayNext content h c)
-  unfolding gatewayNext
+  unfolding gatewayDoes
   unended-next h (GatewayCall.given supported pcp message reply) u = unended-turn h _ _ (received h content reply supported pcp message .turns) u
   unended-next h (GatewayCall.asked reply) u = u
 
@@ -68,7 +70,7 @@ code-chosen checked content =
     or-true false = refl
 
 module _ (b : Before) (deviceReply gatewayReply : World → List ℕ) (c : CleanStart b deviceReply gatewayReply) where
-  begun : Begun (b .version) (b .size) (b .content) (pick (b .checked) (checkOf (b .content)) 0)
+  begun : StartedOn (b .version) (b .size) (b .content) (pick (b .checked) (checkOf (b .content)) 0)
       (gateway.startOf (b .version) (b .size) (b .content) (b .checked))
   begun = starts (b .version) (b .size) (b .content) (b .checked) (c .ready .gateway-started)
 
@@ -106,7 +108,9 @@ module _ (b : Before) (deviceReply gatewayReply : World → List ℕ) (c : Clean
         sound = setting .sound;
         gateway-is =
             unended (λ z. omega arith)
-            ∙ ap₂ gateway.inPhase offering (begun .made);
+            ∙ ap₂ gateway.inPhase offering (begun .made)
+            ∙ ap (λ (f : Fields). record { phase = gateway.offer; ending = 0; fields = f; length = length (b .content) })
+            (sym (ap (λ (g : Gateway). g .fields) (begun .made)) ∙ started-fields _ _ (b .content) _ begun);
       }
 
 pub clean-run : CleanRun

@@ -6,7 +6,7 @@ use mathlib.Core.Bool.{true, false}
 use mathlib.Core.List.{List}
 use lib.Dec.{leb}
 use lib.ListN.{length}
-use borrow.Author.Tests.{leb-true, le-leb}
+use borrow.Author.Tests.{leb-true, le-leb, eq-eqb}
 use Rattle.basis.specs.Bytes.{same}
 use Rattle.basis.proofs.Choosing.{and-left, and-right, and-both}
 use Rattle.message.specs.Limits.{deviceRoom, gatewayRoom, sizeMin, sizeMax, sizeOk, totalOk, totalMax, isWord}
@@ -52,7 +52,7 @@ module _ (s : Setting) where
 
   abbrev pub gatewayIn : ℕ → Gateway
   gatewayIn phase =
-      record { phase = phase; ending = 0; version = s .version; size = s .size; length = length (s .content); code = s .code }
+      record { phase = phase; ending = 0; fields = fields; length = length (s .content) }
 
   abbrev pub deviceIn : (phase : ℕ) (running : List ℕ) (stored last outcome : ℕ) → Device
   deviceIn phase running stored last outcome =
@@ -94,4 +94,4 @@ module _ (s : Setting) where
 
   pub gateway-good : (phase : ℕ) → leb phase gateway.ended ≡ true → gateway.recordOk (gatewayIn phase) ≡ true
   unfolding gateway.recordOk
-  gateway-good phase p = and-both (and-both p refl) (and-both (s .version-good) (and-both (s .size-ok) (s .length-ok)))
+  gateway-good phase p = and-both (and-both p refl) (and-both (s .version-good) (and-both (s .size-ok) (and-both (s .length-ok) (eq-eqb total total refl))))

@@ -25,7 +25,7 @@ use Rattle.gateway_record.specs.Record as gateway
 use Rattle.gateway.specs.Rules as gateway-rules
 use Rattle.gateway_record.proofs.Package.{stretch-fits}
 use Rattle.upgrade.specs.Calls.{finished, atDevice, next}
-use Rattle.upgrade.specs.Records.{DeviceEnd, deviceNext, World, records}
+use Rattle.upgrade.specs.Records.{DeviceEnd, World, records, deviceDoes}
 use Rattle.upgrade.specs.Clean.{askedNumber}
 use Rattle.upgrade.proofs.Count.{any, call-fine}
 use Rattle.upgrade.proofs.CleanSetting.{Setting, total, fields, gatewayIn, endIn, loadingAt, updatedIn, some, size-most, total-fits, total-ok}
@@ -155,7 +155,7 @@ module _ (s : Setting) where
 
     pub finished : At w (endIn s device.installing stored last image map) (gatewayIn s gateway.run)
         → At (next (records (s .content)) w (atDevice (finished 0x00))) (updatedIn s device.reporting stored last image map) (gatewayIn s gateway.run)
-    unfolding next deviceNext device-rules.installFinishedOf refusal installCode oneOf pick
+    unfolding next deviceDoes device-rules.installFinishedOf refusal installCode oneOf pick
     finished here =
         let e : DeviceEnd = endIn s device.installing stored last image map in
         let good : device.recordOk (e .device) ≡ true = sound-record (standing any) (e .device) image map (here .sound) in

@@ -16,7 +16,8 @@ use Rattle.device.proofs.Numbers.{receive-neither, ask-neither, install-neither
 use Rattle.upgrade.specs.Fold.{after}
 use Rattle.upgrade.specs.Counted.{Counted, Count, Roomy, Room, lentNext}
 use Rattle.upgrade.specs.Calls.{DeviceCall, given, asked, finished}
-use Rattle.upgrade.specs.Records.{DeviceEnd, deviceNext, deviceNumber, deviceRecords}
+use Rattle.upgrade.specs.Records.{DeviceEnd, deviceNext, deviceRecords, deviceDoes}
+use Rattle.upgrade.proofs.Ends.{deviceNumber}
 use Rattle.upgrade.proofs.Lent.{Kept, kept-by, kept-record, kept-given, kept-installed, given-unmet, asked-unmet, installed-unmet}
 
 -- of the stored bytes nothing in particular is known
@@ -33,7 +34,7 @@ made-fine version image map =
     (λ v _. sound-fresh (standing any) version image map v) (λ _ z. absurd (omega arith))
 
 pub call-fine : (e : DeviceEnd) (c : DeviceCall Bool) → Fine e → Fine (deviceNext e c)
-unfolding deviceNext any
+unfolding deviceDoes any
 call-fine e (given supported pcp condition message reply) s =
     standing-does any (e .device) (e .image) (e .map) _ _ (receive-does (e .device) (e .image) (e .map) reply supported pcp condition message)
     (λ _ _ _ _ _. tt) s
@@ -48,7 +49,7 @@ run-fine (c ∷ cs) e s = run-fine cs (deviceNext e c) (call-fine e c s)
 -- ---- one map and one image
 
 pub room : Room
-unfolding deviceNumber
+unfolding deviceDoes
 room version image map made calls =
     roomy (after deviceNext first calls) (run-fine calls first (made-fine version image map made))
   where
@@ -73,7 +74,7 @@ abbrev KeptIn : DeviceEnd → Type 0
 KeptIn e = Kept (e .device) (e .map)
 
 call-kept : (e : DeviceEnd) (c : List ℕ × DeviceCall Bool) → KeptIn e → KeptIn (lentNext deviceRecords e c)
-unfolding deviceNext
+unfolding deviceDoes
 call-kept e (image, given supported pcp condition message reply) k =
     kept-given (e .device) image (e .map) reply supported pcp condition message k
 call-kept e (image, asked reply) k = k
@@ -84,7 +85,7 @@ run-kept [] e k = k
 run-kept (c ∷ cs) e k = run-kept cs (lentNext deviceRecords e c) (call-kept e c k)
 
 pub count : Count
-unfolding deviceNumber
+unfolding deviceDoes
 count version map made calls =
     counted (after (lentNext deviceRecords) first calls)
     (run-kept calls first (kept-by (standing any) (first .device) [] map (made-fine version [] map made)))

@@ -25,7 +25,7 @@ use Rattle.gateway_record.specs.declared.Gateway.{Gateway}
 use Rattle.gateway_record.specs.Record as gateway
 use Rattle.message.specs.Limits.{sizeOk}
 use Rattle.device_record.proofs.Ranges.{size-range}
-use Rattle.gateway_record.proofs.Package.{starts, total-covers, below-total, total-some, fragment-is}
+use Rattle.gateway_record.proofs.Package.{starts, started-fields, total-covers, below-total, total-some, fragment-is}
 use Rattle.upgrade.specs.Fold.{after, Allowed}
 use Rattle.upgrade.specs.Calls.{DeviceCall, given, asked, finished, GatewayCall, Call, atDevice, atGateway, next, May}
 use Rattle.upgrade.specs.Records.{DeviceEnd, gatewayNext, World, records}
@@ -102,7 +102,7 @@ record Whole (content : List ℕ) (e : DeviceEnd) : Type 0 where
 -- ---- what the gateway offers
 
 offer-then : (content : List ℕ) (cs : List (GatewayCall Bool)) (g : Gateway)
-    → gateway.offered (after (gatewayNext content) g cs) ≡ gateway.offered g
+    → after (gatewayNext content) g cs .fields ≡ g .fields
 offer-then content [] g = refl
 offer-then content (c ∷ cs) g =
     offer-then content cs (gatewayNext content g c) ∙ offer-kept content g (gatewayNext content g c) (heardIn c) (gateway-turns content g c)
@@ -113,13 +113,18 @@ abbrev worldAfter : Before → List (Call Bool) → World
 worldAfter b calls = reached (records (b .content)) (start b) calls
 
 module _ (b : Before) (ready : Ready b) where
-  offer-is : gateway.offered (gatewayThen b)
-      ≡ gateway.offered (gateway.started (b .version) (b .size) (length (b .content)) (pick (b .checked) (checkOf (b .content)) 0))
+  offer-is : gatewayThen b .fields
+      ≡ record {
+        version = b .version;
+        size = b .size;
+        total = gateway.totalOf (length (b .content)) (b .size);
+        code = pick (b .checked) (checkOf (b .content)) 0;
+      }
   offer-is =
       offer-then (b .content) (b .gatewayCalls) _
-      ∙ ap gateway.offered (starts (b .version) (b .size) (b .content) (b .checked) (ready .gateway-started) .made)
+      ∙ started-fields (b .version) (b .size) (b .content) _ (starts (b .version) (b .size) (b .content) (b .checked) (ready .gateway-started))
 
-  some : 0 < gateway.offered (gatewayThen b) .size
+  some : 0 < gatewayThen b .fields .size
   some =
       subst (λ (x : Fields). 0 < x .size) (sym offer-is)
       (size-some (b .size) (starts (b .version) (b .size) (b .content) (b .checked) (ready .gateway-started) .size-ok))
@@ -130,14 +135,14 @@ module _ (b : Before) (ready : Ready b) where
       leb-true 1 (length (b .content))
       (and-left (leb 1 (length (b .content))) _ (starts (b .version) (b .size) (b .content) (b .checked) (ready .gateway-started) .length-ok))
 
-  total : gateway.offered (gatewayThen b) .total ≡ gateway.totalOf (length (b .content)) (gateway.offered (gatewayThen b) .size)
+  total : gatewayThen b .fields .total ≡ gateway.totalOf (length (b .content)) (gatewayThen b .fields .size)
   total = subst (λ (x : Fields). x .total ≡ gateway.totalOf (length (b .content)) (x .size)) (sym offer-is) refl
 
   abbrev plan : Plan
   plan =
       record {
         content = b .content;
-        offer = gateway.offered (gatewayThen b);
+        offer = gatewayThen b .fields;
         image = deviceThen b .image;
         Held = Among (heldThen b .fragments);
         size-some = some;
@@ -147,7 +152,7 @@ module _ (b : Before) (ready : Ready b) where
   -- ---- the invariant, along the run
 
   record Inv (calls : List (Call Bool)) (w : World) : Type 0 where
-    offer : gateway.offered (w .gateway) ≡ gateway.offered (gatewayThen b)
+    offer : w .gateway .fields ≡ gatewayThen b .fields
     run : Run plan w (ExecutedIn (records (b .content)) (start b) calls) (InstalledBefore (records (b .content)) (start b) calls)
 
   at-start : Inv [] (start b)
@@ -230,7 +235,7 @@ module _ (b : Before) (ready : Ready b) where
         n = length (b .content)
 
         size : ℕ
-        size = gateway.offered (gatewayThen b) .size
+        size = gatewayThen b .fields .size
 
         stretches : Sound (standing (λ index bytes. bytes ≡ take (d .fields .size) (drop (index * d .fields .size) (b .content)))) d image map
         stretches =

@@ -20,7 +20,8 @@ use Rattle.device.proofs.Views
 use Rattle.device.proofs.Views.{Input, hears, asks, installs, Out, out, spoken, storedOut, receiveOut, askOut, installOut, Begins, Resumes, Stores, Still}
 use Rattle.device.proofs.Views.{Moves, Does, receive-does, ask-does, install-does}
 use Rattle.upgrade.specs.Calls.{DeviceCall, given, asked, finished, aired}
-use Rattle.upgrade.specs.Records.{DeviceEnd, deviceNext, deviceSays}
+use Rattle.upgrade.specs.Records.{DeviceEnd, deviceNext, deviceDoes}
+use Rattle.upgrade.proofs.Ends.{deviceSays}
 
 -- the end that a call leaves
 abbrev pub endOf : Out → DeviceEnd
@@ -80,13 +81,13 @@ call-does e (asked reply) = ask-does (e .device) (e .image) (e .map) reply
 call-does e (finished code) = install-does (e .device) (e .image) (e .map) code
 
 pub next-is : (e : DeviceEnd) (c : DeviceCall Bool) → deviceNext e c ≡ endOf (outIn e c)
-unfolding deviceNext
+unfolding deviceDoes
 next-is e (given supported pcp condition message reply) = refl
 next-is e (asked reply) = refl
 next-is e (finished code) = refl
 
 pub says-is : (e : DeviceEnd) (c : DeviceCall Bool) → deviceSays e c ≡ outIn e c .says
-unfolding deviceSays aired
+unfolding deviceDoes aired
 says-is e (given supported pcp condition message reply) = refl
 says-is e (asked reply) = refl
 says-is e (finished code) = refl

@@ -11,9 +11,10 @@ use Rattle.message.specs.Messages.{Reading, refused, toDevice, toGateway}
 use Rattle.codec.specs.Codec.{readOf}
 use Rattle.gateway_record.specs.declared.Gateway.{Gateway}
 use Rattle.gateway_record.specs.Record as gateway
-use Rattle.gateway.proofs.Views.{Served, Sayable, Says, nothing, says, Turns, stays, offers, serves, runs, fails, succeeds, received, next-said}
+use Rattle.gateway.proofs.Views.{Served, CanSay, Says, nothing, says, Turns, stays, offers, serves, runs, fails, succeeds, received, next-said}
 use Rattle.upgrade.specs.Calls.{GatewayCall, aired, atGateway, next}
-use Rattle.upgrade.specs.Records.{gatewayNext, gatewaySays, World, records}
+use Rattle.upgrade.specs.Records.{gatewayNext, World, records, gatewayDoes}
+use Rattle.upgrade.proofs.Ends.{gatewaySays}
 use Rattle.upgrade.proofs.Air.{Air, Heard, air-map, air-more, air-silent, air-said}
 use Rattle.upgrade.proofs.Run.{Plan, NotEnded, Offering, RunsTarget, GatewaySaid, DeviceSaid, more-said, Untaken, Taken}
 
@@ -26,27 +27,27 @@ heardIn (GatewayCall.asked reply) = refused 0
 
 module _ (content : List ℕ) (g : Gateway) where
   pub gateway-turns : (c : GatewayCall Bool) → Turns g content (heardIn c) (gatewayNext content g c)
-  unfolding gatewayNext
+  unfolding gatewayDoes
   gateway-turns (GatewayCall.given supported pcp message reply) = received g content reply supported pcp message .turns
   gateway-turns (GatewayCall.asked reply) = stays refl
 
-  on-air : (reply : List ℕ) (n : ℕ) (buffer : List ℕ) → Says g content reply n buffer → Air toDevice (Sayable g content) (aired n buffer)
+  on-air : (reply : List ℕ) (n : ℕ) (buffer : List ℕ) → Says g content reply n buffer → Air toDevice (CanSay g content) (aired n buffer)
   on-air reply n buffer (nothing e) = air-silent toDevice n buffer e
   on-air reply n buffer (says m e b s) = air-said toDevice m n buffer reply e b s
 
-  pub gateway-said : (c : GatewayCall Bool) → Air toDevice (Sayable g content) (gatewaySays content g c)
-  unfolding gatewaySays
+  pub gateway-said : (c : GatewayCall Bool) → Air toDevice (CanSay g content) (gatewaySays content g c)
+  unfolding gatewayDoes
   gateway-said (GatewayCall.given supported pcp message reply) = on-air reply _ _ (received g content reply supported pcp message .said)
   gateway-said (GatewayCall.asked reply) = on-air reply _ _ (next-said g content reply)
 
   -- the four fields stay
-  pub offer-kept : (h : Gateway) (heard : Reading GatewayMessage) → Turns g content heard h → gateway.offered h ≡ gateway.offered g
-  offer-kept h heard (stays e) = ap gateway.offered e
-  offer-kept h heard (offers p e) = ap gateway.offered e
-  offer-kept h heard (serves p a e) = ap gateway.offered e
-  offer-kept h heard (runs p e) = ap gateway.offered e
-  offer-kept h heard (fails n z e) = ap gateway.offered e
-  offer-kept h heard (succeeds p a e) = ap gateway.offered e
+  pub offer-kept : (h : Gateway) (heard : Reading GatewayMessage) → Turns g content heard h → h .fields ≡ g .fields
+  offer-kept h heard (stays e) = ap e .fields
+  offer-kept h heard (offers p e) = ap e .fields
+  offer-kept h heard (serves p a e) = ap e .fields
+  offer-kept h heard (runs p e) = ap e .fields
+  offer-kept h heard (fails n z e) = ap e .fields
+  offer-kept h heard (succeeds p a e) = ap e .fields
 
 -- ---- before the announcement is taken up
 
@@ -68,8 +69,8 @@ ending-is e = ap (λ (x : Gateway). x .ending) e
 
 module _ (p : Plan) (g h : Gateway) (heard : Reading GatewayMessage) where
   -- what it says, where it serves only if `served`
-  said-so : {served : Type 0} → gateway.offered g ≡ p .offer → ((g .phase ≡ gateway.serve) ⊎ (g .phase ≡ gateway.run) → served)
-      → (m : DeviceMessage) → Sayable g (p .content) m → GatewaySaid p served m
+  said-so : {served : Type 0} → g .fields ≡ p .offer → ((g .phase ≡ gateway.serve) ⊎ (g .phase ≡ gateway.run) → served)
+      → (m : DeviceMessage) → CanSay g (p .content) m → GatewaySaid p served m
   said-so o k query s = tt
   said-so o k (announce a) s = s .1 ∙ o
   said-so o k (fragment result index bytes) s =
@@ -90,7 +91,7 @@ module _ (p : Plan) (g h : Gateway) (heard : Reading GatewayMessage) where
 
   -- ---- after it: the gateway ends once, with 0 only where the target was reported with 00
 
-  ends-once : {T I : Type 0} → gateway.offered g ≡ p .offer → Heard toGateway (DeviceSaid p T (NotEnded g → I)) heard
+  ends-once : {T I : Type 0} → g .fields ≡ p .offer → Heard toGateway (DeviceSaid p T (NotEnded g → I)) heard
       → (g .phase ≡ gateway.ended → g .ending ≡ 0 → I) → Turns g (p .content) heard h
       → (NotEnded h → NotEnded g) × (h .phase ≡ gateway.ended → h .ending ≡ 0 → I)
   ends-once o k s (stays e) = (λ n q. n (phase-is e ∙ q), λ q z. s (sym (phase-is e) ∙ q) (sym (ending-is e) ∙ z))
@@ -100,12 +101,12 @@ module _ (p : Plan) (g h : Gateway) (heard : Reading GatewayMessage) where
   ends-once o k s (fails n z e) = (λ l. absurd (l (phase-is e)), λ _ q. absurd (z (sym (ending-is e) ∙ q)))
   ends-once o k s (succeeds q a e) = (
     λ l. absurd (l (phase-is e)),
-    λ _ _. k (resultReport 0x00 (g .version)) a refl (ap (λ (x : Fields). x .version) o) (λ r. omega arith),
+    λ _ _. k (resultReport 0x00 (g .fields .version)) a refl (ap (λ (x : Fields). x .version) o) (λ r. omega arith),
   )
 
 -- ---- a call
 
-module _ (p : Plan) (w : World) (c : GatewayCall Bool) (o : gateway.offered (w .gateway) ≡ p .offer) where
+module _ (p : Plan) (w : World) (c : GatewayCall Bool) (o : w .gateway .fields ≡ p .offer) where
   abbrev turned : Gateway
   turned = gatewayNext (p .content) (w .gateway) c
 

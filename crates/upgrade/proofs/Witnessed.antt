@@ -19,7 +19,7 @@ use Rattle.device.specs.Rules as device
 use Rattle.gateway_record.specs.Record as gateway-record
 use Rattle.gateway.specs.Rules as gateway
 use Rattle.upgrade.specs.Calls.{finished, atDevice, atGateway, aired, next, May}
-use Rattle.upgrade.specs.Records.{deviceNext, deviceSays, deviceNumber, gatewayNext, gatewaySays}
+use Rattle.upgrade.specs.Records.{deviceDoes, gatewayDoes}
 use Rattle.upgrade.specs.Held.{heldBy, heldNext, heldAfter}
 use Rattle.upgrade.specs.Witnesses.{new, toldDevice, askedDevice, toldGateway, content, download, Witnesses}
 
@@ -47,7 +47,7 @@ unfolding pick refusal oneOf part same over patched doubled entryOf step registe
     device.completion device.executeResult gateway-record.totalOf gateway-record.lengthOk gateway-record.fragmentOf gateway-record.startOf
     gateway-record.recordOk gateway.asked gateway.serving gateway.fragmentReply gateway.onQueryReply gateway.onAnnounceReply
     gateway.onFragmentRequest gateway.onDownloadReport gateway.onExecuteReply gateway.onResultReport gateway.handle gateway.receiveOf
-    gateway.wanted gateway.nextMessageOf aired next May deviceNext deviceSays deviceNumber gatewayNext gatewaySays heldBy heldNext heldAfter
+    gateway.wanted gateway.nextMessageOf aired next May deviceDoes gatewayDoes heldBy heldNext heldAfter
 witnesses =
     record {
       clean = record {

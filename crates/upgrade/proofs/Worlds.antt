@@ -10,7 +10,7 @@ use Rattle.codec.proofs.Heard.{device-told, gateway-told}
 use Rattle.device.proofs.Views.{hears, installs, spoken}
 use Rattle.gateway_record.specs.Record as gateway
 use Rattle.upgrade.specs.Calls.{DeviceCall, given, asked, finished, GatewayCall, atDevice, atGateway, next, May}
-use Rattle.upgrade.specs.Records.{deviceNumber, World, records}
+use Rattle.upgrade.specs.Records.{World, records, deviceDoes}
 use Rattle.upgrade.specs.Claims.{Executed, Installed}
 use Rattle.upgrade.proofs.Air.{Air, Heard, air-heard}
 use Rattle.upgrade.proofs.Run.{Plan, NotEnded, Run, untaken, taken}
@@ -50,7 +50,7 @@ module _ (w : World) where
 
   is-installed : (content : List ℕ) (c : DeviceCall Bool) → inputOf c ≡ installs 0x00 → outIn (w .deviceEnd) c .number ≡ 0
       → Installed (records content) w (atDevice c)
-  unfolding deviceNumber
+  unfolding deviceDoes
   is-installed content (given supported pcp condition message reply) i n = absurd (let z : _≡_ {A = ℕ} 0 1 = cc in omega arith)
   is-installed content (asked reply) i n = absurd (let z : _≡_ {A = ℕ} 0 1 = cc in omega arith)
   is-installed content (finished code) i n = (let r : code ≡ 0x00 = cc in r, n)
@@ -58,7 +58,7 @@ module _ (w : World) where
 -- ---- a call
 
 module _ (p : Plan) (w : World) where
-  pub gateway-keeps : {E I : Type 0} (c : GatewayCall Bool) → gateway.offered (w .gateway) ≡ p .offer → May w (atGateway c) → Run p w E I
+  pub gateway-keeps : {E I : Type 0} (c : GatewayCall Bool) → w .gateway .fields ≡ p .offer → May w (atGateway c) → Run p w E I
       → Run p (next (records (p .content)) w (atGateway c)) E I
   gateway-keeps c o m (untaken u) = untaken (untaken-turn p w c o u (gateway-hears w c (u .heard) m))
   gateway-keeps c o m (taken t) = taken (taken-turn p w c o t (gateway-hears w c (t .heard) m))

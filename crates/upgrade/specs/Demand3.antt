@@ -40,7 +40,7 @@ module _ (b : Before) where
   -- If the announcement that zeroed the map carried this gateway's four fields, each fragment held is the package's for its index.
   abbrev pub HeldIsPackage : Type 0
   HeldIsPackage =
-      holding (deviceThen .device .phase) ≡ true → heldThen .fields ≡ gateway.offered gatewayThen →
+      holding (deviceThen .device .phase) ≡ true → heldThen .fields ≡ gatewayThen .fields →
       (index : ℕ) (bytes : List ℕ) → List·Memᴰ (index, bytes) (heldThen .fragments) → bytes ≡ gateway.fragmentOf (b .content) (b .size) index
 
   -- The making and the start were answered 0, the gateway is in Offer, and Held is as said.

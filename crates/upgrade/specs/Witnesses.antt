@@ -96,7 +96,7 @@ pub record Witnesses : Type 0 where
   -- a download can be held under the offer's fields
   pub ready : Ready half
   pub held-loading : deviceThen half .device .phase ≡ loading
-  pub held-offer : gateway.offered (gatewayThen half) ≡ offer
+  pub held-offer : gatewayThen half .fields ≡ offer
   pub held : heldThen half ≡ record { fields = offer; fragments = (0, take 32 content) ∷ [] }
   -- from there a list of calls may be made that ends in a success, with its history
   pub allowed : Allowed (next (records content)) May (start half) calls

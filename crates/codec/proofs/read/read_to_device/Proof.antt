@@ -2,7 +2,7 @@
 -- bytes are all the data. Assumes nothing.
 use Rattle.message.specs.Coded.{deviceMessage, validOf}
 use Rattle.codec.specs.Parts.{dataOf}
-use Rattle.codec.proofs.Reading.{bytes-drop, device-starts, read-refused, read-found, read-bad}
+use Rattle.codec.proofs.Reading.{bytes-drop, device-starts, read-refused, Tested, read-tested}
 use Rattle.codec.proofs.Laying.{length-laid}
 use Rattle.message.specs.Messages.{toDevice}
 use Rattle.basis.proofs.Lists.{length-part}
@@ -33,6 +33,15 @@ len c = length-laid toDevice _ _ _ _ (part (c .before .before .before .before .b
     (c .before .before .device-parts .ensures) (search needs) (length-part _ 8 16)
     (ap length (sym (c .before .before .before .fragment-data .ensures))) (c .before .data-len .ensures)
 
+-- the candidate is kept where it passes the test, and bad data where it does not
+tested : (c : tie.After-device-valid)
+    → Tested toDevice (c .before .before .before .before .before .before .before .before .before .args .supported) (c .before .before .before .before .before .before .before .before .before .args .pcp) (c .before .before .before .before .before .before .before .before .before .args .message .now)
+    (deviceMessage (c .before .before .before .before .before .device-candidate .result) (part (c .before .before .before .before .before .before .before .before .before .args .message .now) 8 16) (drop 11 (c .before .before .before .before .before .before .before .before .before .args .message .now)))
+    (c .device-valid .result) (c .before .data-len .result)
+tested c = read-tested toDevice _ _ (c .before .before .before .before .before .before .before .before .before .args .message .now) _ (bytes c)
+    (device-starts _ _ (bytes-drop 8 _ (bytes c))) (c .before .before .before .before .before .before .before .recognise .ensures)
+    (c .before .before .before .before .before .before .if1 .left) _ _ _ (c .before .before .before .before .before .device-candidate .ensures) (valid c) (len c)
+
 recognise-requires : tie.Need-recognise-requires
 recognise-requires c κs = search needs
 
@@ -62,20 +71,10 @@ add-if2 : tie.Need-add-if2
 add-if2 c = search needs
 
 returns-2 : tie.Need-returns-2
-returns-2 c =
-    read-found toDevice _ _ (c .before .before .before .before .before .before .before .before .before .before .args .message .now) _
-    (bytes (c .before)) (device-starts _ _ (bytes-drop 8 _ (bytes (c .before))))
-    (c .before .before .before .before .before .before .before .before .recognise .ensures)
-    (c .before .before .before .before .before .before .before .if1 .left) _ _ _
-    (c .before .before .before .before .before .before .device-candidate .ensures) (valid (c .before)) (len (c .before)) (c .if2 .taken)
+returns-2 c = tested (c .before) .0 (c .if2 .taken)
 
 returns-3 : tie.Need-returns-3
-returns-3 c =
-    read-bad toDevice _ _ (c .before .before .before .before .before .before .before .before .before .before .args .message .now) _
-    (bytes (c .before)) (device-starts _ _ (bytes-drop 8 _ (bytes (c .before))))
-    (c .before .before .before .before .before .before .before .before .recognise .ensures)
-    (c .before .before .before .before .before .before .before .if1 .left) _ _ _
-    (c .before .before .before .before .before .before .device-candidate .ensures) (valid (c .before)) (len (c .before)) (c .if2 .left)
+returns-3 c = tested (c .before) .1 (c .if2 .left)
 
 pub read-to-device-spec : {M : Type 1} → statement M
 read-to-device-spec =

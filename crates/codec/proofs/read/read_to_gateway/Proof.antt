@@ -11,7 +11,7 @@ use Rattle.message.specs.Coded.{gatewayMessage, validOf}
 use Rattle.codec.specs.Coded.{versionPlace}
 use Rattle.codec.specs.Parts.{dataOf}
 use Rattle.codec.proofs.Laying.{length-laid}
-use Rattle.codec.proofs.Reading.{bytes-drop, gateway-starts, read-refused, read-found, read-bad}
+use Rattle.codec.proofs.Reading.{bytes-drop, gateway-starts, read-refused, Tested, read-tested}
 use borrow.Author.Needs.{needs}
 use Rattle.codec.proofs.read.read_to_gateway.Statement.{statement}
 use Rattle.codec.proofs.read.read_to_gateway.Tie as tie
@@ -43,6 +43,15 @@ len c =
     (versionPlace (c .before .before .before .before .before .gateway-candidate .result)) 16) [] (c .before .before .gateway-parts .ensures) (search needs)
     (length-part _ (versionPlace (c .before .before .before .before .before .gateway-candidate .result)) 16) refl (c .before .data-len .ensures)
 
+-- the candidate is kept where it passes the test, and bad data where it does not
+tested : (c : tie.After-gateway-valid)
+    → Tested toGateway (c .before .before .before .before .before .before .before .before .before .args .supported) (c .before .before .before .before .before .before .before .before .before .args .pcp) (c .before .before .before .before .before .before .before .before .before .args .message .now)
+    (gatewayMessage (c .before .before .before .before .before .gateway-candidate .result) (part (c .before .before .before .before .before .before .before .before .before .args .message .now) (versionPlace (c .before .before .before .before .before .gateway-candidate .result)) 16))
+    (c .gateway-valid .result) (c .before .data-len .result)
+tested c = read-tested toGateway _ _ (c .before .before .before .before .before .before .before .before .before .args .message .now) _ (bytes c)
+    (gateway-starts _ _ (bytes-drop 8 _ (bytes c))) (c .before .before .before .before .before .before .before .recognise .ensures)
+    (c .before .before .before .before .before .before .if1 .left) _ _ _ (c .before .before .before .before .before .gateway-candidate .ensures) (valid c) (len c)
+
 recognise-requires : tie.Need-recognise-requires
 recognise-requires c κs = search needs
 
@@ -72,20 +81,10 @@ add-if2 : tie.Need-add-if2
 add-if2 c = search needs
 
 returns-2 : tie.Need-returns-2
-returns-2 c =
-    read-found toGateway _ _ (c .before .before .before .before .before .before .before .before .before .before .args .message .now) _
-    (bytes (c .before)) (gateway-starts _ _ (bytes-drop 8 _ (bytes (c .before))))
-    (c .before .before .before .before .before .before .before .before .recognise .ensures)
-    (c .before .before .before .before .before .before .before .if1 .left) _ _ _
-    (c .before .before .before .before .before .before .gateway-candidate .ensures) (valid (c .before)) (len (c .before)) (c .if2 .taken)
+returns-2 c = tested (c .before) .0 (c .if2 .taken)
 
 returns-3 : tie.Need-returns-3
-returns-3 c =
-    read-bad toGateway _ _ (c .before .before .before .before .before .before .before .before .before .before .args .message .now) _
-    (bytes (c .before)) (gateway-starts _ _ (bytes-drop 8 _ (bytes (c .before))))
-    (c .before .before .before .before .before .before .before .before .recognise .ensures)
-    (c .before .before .before .before .before .before .before .if1 .left) _ _ _
-    (c .before .before .before .before .before .before .gateway-candidate .ensures) (valid (c .before)) (len (c .before)) (c .if2 .left)
+returns-3 c = tested (c .before) .1 (c .if2 .left)
 
 pub read-to-gateway-spec : {M : Type 1} → statement M
 read-to-gateway-spec =
