@@ -10,14 +10,15 @@ use borrow.Author.Tests.{le-leb, lt-leb}
 use Rattle.basis.specs.Choice.{pick}
 use Rattle.basis.proofs.Choosing.{pick-yes, pick-no}
 use Rattle.basis.proofs.Lists.{length-part}
+use Rattle.codec.specs.declared.Written.{Written}
 use Rattle.codec.specs.Codec.{Sent}
+use Rattle.codec.specs.Coded.{sent}
 use Rattle.device_record.specs.declared.Device.{Device}
 use Rattle.device_record.specs.declared.Made.{Made}
 use Rattle.device_record.specs.Record.{newOf}
 use Rattle.device.specs.declared.Answer.{Answer}
 use Rattle.device.specs.declared.Finished.{Finished}
-use Rattle.device.specs.declared.Said.{Said}
-use Rattle.device.specs.Coded.{afterCall, afterAsk}
+use Rattle.device.specs.Answers.{afterCall}
 use Rattle.device.specs.Rules as device
 use Rattle.gateway.specs.declared.Gateway.{Gateway}
 use Rattle.gateway.specs.declared.Started.{Started}
@@ -81,8 +82,8 @@ module _ (bytes after : List ℕ) (room : deviceLength ≤ length bytes) where
       ∙ long-enough deviceLength bytes _ _ room
 
 module _ (bytes image map reply : List ℕ) (d : Device) (at : d ≡ deviceAt bytes) where
-  pub device-asked : (reply′ : List ℕ) (r : ℕ) (s : Said) → deviceLength ≤ length bytes
-      → afterAsk s reply′ ≡ device.nextMessageOf d image map reply → r ≡ packed (s .number) (s .length)
+  pub device-asked : (reply′ : List ℕ) (r : ℕ) (s : Written) → deviceLength ≤ length bytes
+      → sent s reply′ ≡ device.nextMessageOf d image map reply → r ≡ packed (s .number) (s .length)
       → _≡_ {A = Asked} (record { answer = r; reply = reply′ }) (deviceNextMessageOf bytes image map reply)
   unfolding deviceNextMessageOf
   device-asked reply′ r s room e p =
@@ -97,7 +98,7 @@ module _ (bytes image map reply : List ℕ) (d : Device) (at : d ≡ deviceAt by
       let h = device-reply-short d (ap (λ (d : Device). length (d .running)) at ∙ length-part bytes 1 16) image map reply supported pcp condition message in
       omega (arith, h, ap (λ (n : device.After). n .length) e)
 
-  pub device-ask-below : (reply′ : List ℕ) (s : Said) → afterAsk s reply′ ≡ device.nextMessageOf d image map reply → s .length < 65536
+  pub device-ask-below : (reply′ : List ℕ) (s : Written) → sent s reply′ ≡ device.nextMessageOf d image map reply → s .length < 65536
   unfolding deviceAt
   device-ask-below reply′ s e =
       let h = device-ask-short d (ap (λ (d : Device). length (d .running)) at ∙ length-part bytes 1 16) image map reply
