@@ -95,7 +95,7 @@ module _ (d : Device) (image map reply : List ℕ) (condition : ℕ) (version by
   unfolding handle
   led k m a only c own exit =
       elim (placed m c) [
-        inl z ↦ (let (v, f) = lives-at enum m 0 z in exit (v .0) f ∙ sym (ap ruled f))
+        | inl z ↦ (let (v, f) = lives-at enum m 0 z in exit (v .0) f ∙ sym (ap ruled f))
         | inr p ↦ (let (v, f) = lives-at enum m k (only _ (p .0) (p .1)) in own v f ∙ sym (ap ruled f))
       ]
 

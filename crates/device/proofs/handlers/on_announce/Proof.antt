@@ -1,4 +1,4 @@
--- `device::handlers::on_announce` meets its contract. Assumes nothing.
+-- `device::handlers::on_announce` meets its contract: the test for a new download is the rule's two choices in one. Assumes nothing.
 use borrow.Author.Needs.{needs}
 use mathlib.Core.Path.{_∙_, refl}
 use Rattle.basis.specs.Choice.{oneOf}
@@ -55,18 +55,24 @@ same-length-2 c = search needs
 
 returns-2 : tie.Need-returns-2
 returns-2 c =
-    let s = c .before .before .before .before .before .before .before .before .before .before .before .before .before .before .before .before .before .before .before .before in (
-      of-announce _ _ _ _ _ (c .before .before .before .before .before .before .before .before .before .before .before .before .before .before .before .message .given .1)
-          (afresh _ (s .args .image .now) (s .args .map .now) _ _ (s .args .reply .now) _ _ (c .before .before .before .before .before .before .before .before .before .before .before .before .announce-result .ensures)
-          (c .before .before .before .before .before .before .before .before .before .before .before .resumes .ensures) _ _ _ _ (c .before .before .before .before .before .before .before .before .before .before .if1 .taken) (c .before .before .before .before .before .before .before .before .map-bytes .ensures) (c .before .before .before .before .before .before .before .clear .ensures) (c .before .before .before .before .begun .ensures)
-          (c .before .before .replied .ensures _ _ _ refl)),
-      λ n e. unrefused _ 2 n e tt (c .before .before .before .before .before .before .before .before .before .before .before .before .before .before .before .before .match .keys1),
+    let r = c .before .before .before .before .before .before .before in
+    let t = r .before .before .before .before .before in
+    let s = t .before .before .before .before .before .before .before .before in (
+      of-announce _ _ _ _ _ (t .before .before .before .message .given .1)
+          (afresh _ (s .args .image .now) (s .args .map .now) _ _ (s .args .reply .now) _ _ (t .announce-result .ensures)
+          (r .before .before .before .before .resumes .ensures) _ _ _ _
+          (r .before .before .before .if1 .taken) (r .before .map-bytes .ensures) (r .clear .ensures)
+          (c .before .before .before .before .begun .ensures) (c .before .before .replied .ensures _ _ _ refl)),
+      λ n e. unrefused _ 2 n e tt (t .before .before .before .before .match .keys1),
     )
 
 replied-requires-2 : tie.Need-replied-requires-2
 replied-requires-2 c κs =
-    let s = c .before .before .before .before .before .before .before .before .before .before .before in
-    (s .pre .room, rw (c .before .before .before .announce-result .ensures) (announce-allowed _ _ _ (s .args .image .now) (s .args .map .now) (s .pre .condition)))
+    let s = c .before .before .before .before .before .before .before .before .before .before .before in (
+      s .pre .room,
+      rw (c .before .before .before .announce-result .ensures)
+          (announce-allowed _ _ _ (s .args .image .now) (s .args .map .now) (s .pre .condition)),
+    )
 
 same-length-3 : tie.Need-same-length-3
 same-length-3 c = search needs
@@ -75,12 +81,14 @@ same-length-4 : tie.Need-same-length-4
 same-length-4 c = search needs
 
 returns-3 : tie.Need-returns-3
-returns-3 c = (
-  of-announce _ _ _ _ _ (c .before .before .before .before .before .before .before .before .before .message .given .1)
-      (c .before .before .replied2 .ensures _ _ _ refl
-      ∙ unchanged _ _ _ _ _ _ _ _ (c .before .before .before .before .before .before .announce-result .ensures) (c .before .before .before .before .before .resumes .ensures) (c .before .before .before .before .if1 .left)),
-  λ n e. unrefused _ 2 n e tt (c .before .before .before .before .before .before .before .before .before .before .match .keys1),
-)
+returns-3 c =
+    let r = c .before .before .before .before in
+    let t = r .before .before .before .before .before in (
+      of-announce _ _ _ _ _ (t .message .given .1)
+          (c .before .before .replied2 .ensures _ _ _ refl
+          ∙ unchanged _ _ _ _ _ _ _ _ (r .before .before .announce-result .ensures) (r .before .resumes .ensures) (r .if1 .left)),
+      λ n e. unrefused _ 2 n e tt (t .before .match .keys1),
+    )
 
 pub on-announce-spec : {M : Type 1} → statement M
 on-announce-spec =

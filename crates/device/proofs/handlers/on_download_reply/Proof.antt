@@ -1,4 +1,4 @@
--- `device::handlers::on_download_reply` meets its contract. Assumes nothing.
+-- `device::handlers::on_download_reply` meets its contract: its tests of the phase are the rule's. Assumes nothing.
 use borrow.Author.Tests.{eq-eqb, ne-eqb}
 use borrow.Author.Needs.{needs}
 use mathlib.Core.Path.{sym, _∙_}

@@ -1,4 +1,4 @@
--- `device::handlers::on_execute` meets its contract. Assumes nothing.
+-- `device::handlers::on_execute` meets its contract: the phase chosen is the record chosen. Assumes nothing.
 use borrow.Author.Needs.{needs}
 use mathlib.Core.Path.{_∙_, refl}
 use Rattle.device.specs.Rules.{onExecute}

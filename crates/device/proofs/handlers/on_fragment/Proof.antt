@@ -1,4 +1,4 @@
--- `device::handlers::on_fragment` meets its contract. Assumes nothing.
+-- `device::handlers::on_fragment` meets its contract: its tests are the rule's in their order, and past them a fragment may be stored. Assumes nothing.
 use borrow.Author.Needs.{needs}
 use mathlib.Core.Path.{sym, _∙_}
 use Rattle.device_decisions.proofs.Tested.{fragment-passed}
@@ -67,12 +67,15 @@ same-length : tie.Need-same-length
 same-length c = search needs
 
 returns-5 : tie.Need-returns-5
-returns-5 c = (
-  of-fragment _ _ _ _ (c .before .before .before .before .before .before .before .before .before .before .message .given .1)
-      (λ p. c .refused3 .ensures _ _ p ∙ sym (refused-first _ _ _ p _ _ (c .before .before .before .before .before .before .before .before .before .before .before .before .before .before .before .args .content .now)
-      (c .before .before .before .before .before .before .before .if1 .left) (c .before .before .before .before .before .before .if2 .left) (c .before .before .before .before .before .if3 .left) _ (c .before .before .fragment-number .ensures) (c .before .if4 .taken))),
-  λ n e p. unrefused _ 3 n e tt (c .before .before .before .before .before .before .before .before .before .before .before .match .keys1),
-)
+returns-5 c =
+    let r = c .before .before .before .before .before in
+    let t = r .before .before .before .before .before in
+    let s = t .before .before .before .before .before in (
+      of-fragment _ _ _ _ (t .message .given .1)
+          (λ p. c .refused3 .ensures _ _ p ∙ sym (refused-first _ _ _ p _ _ (s .args .content .now)
+          (r .before .before .if1 .left) (r .before .if2 .left) (r .if3 .left) _ (c .before .before .fragment-number .ensures) (c .before .if4 .taken))),
+      λ n e p. unrefused _ 3 n e tt (t .before .match .keys1),
+    )
 
 store-requires : tie.Need-store-requires
 store-requires c κs =
@@ -88,13 +91,16 @@ same-length-3 : tie.Need-same-length-3
 same-length-3 c = search needs
 
 returns-6 : tie.Need-returns-6
-returns-6 c = (
-  of-fragment _ _ _ _ (c .before .before .before .before .before .before .before .before .before .before .before .before .before .before .before .before .message .given .1)
-      (λ p. c .before .before .before .before .store .ensures p ∙ sym (stores _ _ _ p _ _ (c .before .before .before .before .before .before .before .before .before .before .before .before .before .before .before .before .before .before .before .before .before .args .content .now)
-      (c .before .before .before .before .before .before .before .before .before .before .before .before .before .if1 .left) (c .before .before .before .before .before .before .before .before .before .before .before .before .if2 .left)
-      (c .before .before .before .before .before .before .before .before .before .before .before .if3 .left) _ (c .before .before .before .before .before .before .before .before .fragment-number .ensures) (c .before .before .before .before .before .before .before .if4 .left))),
-  λ n e p. unrefused _ 3 n e tt (c .before .before .before .before .before .before .before .before .before .before .before .before .before .before .before .before .before .match .keys1),
-)
+returns-6 c =
+    let r = c .before .before .before .before .before .before .before in
+    let t = r .before .before .before .before in
+    let u = t .before .before .before .before .before in
+    let s = u .before .before .before .before .before in (
+      of-fragment _ _ _ _ (u .message .given .1)
+          (λ p. c .before .before .before .before .store .ensures p ∙ sym (stores _ _ _ p _ _ (s .args .content .now)
+          (t .before .before .if1 .left) (t .before .if2 .left) (t .if3 .left) _ (r .before .fragment-number .ensures) (r .if4 .left))),
+      λ n e p. unrefused _ 3 n e tt (u .before .match .keys1),
+    )
 
 pub on-fragment-spec : {M : Type 1} → statement M
 on-fragment-spec =

@@ -1,4 +1,4 @@
--- `device::handlers::on_query` meets its contract. Assumes nothing.
+-- `device::handlers::on_query` meets its contract: a record that holds has a version that may be said. Assumes nothing.
 use borrow.Author.Needs.{needs}
 use mathlib.Core.Path.{refl}
 use Rattle.device_record.proofs.Records.{record-kept}

@@ -1,4 +1,4 @@
--- `device::handlers::on_result_reply` meets its contract. Assumes nothing.
+-- `device::handlers::on_result_reply` meets its contract: its test of the phase is the rule's. Assumes nothing.
 use borrow.Author.Tests.{eq-eqb, ne-eqb}
 use borrow.Author.Needs.{needs}
 use mathlib.Core.Path.{sym, _∙_}

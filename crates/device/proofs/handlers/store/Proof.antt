@@ -1,4 +1,4 @@
--- `device::handlers::store` meets its contract. Assumes nothing.
+-- `device::handlers::store` meets its contract: a fragment that has passed its tests fits its place. Assumes nothing.
 use borrow.Author.Needs.{needs}
 use native.Mathlib.Omega.{arith}
 use mathlib.Core.Path.{_∙_}
@@ -47,9 +47,11 @@ same-length-2 c = search needs
 
 returns : tie.Need-returns
 returns c =
-    let s = c .before .before .before .before .before .before .before .before .before .before .before .before .before .before .before .before .before .before .before in
+    let r = c .before .before .before .before .before in
+    let t = r .before .before .before .before .before .before .before in
+    let s = t .before .before .before .before .before .before .before in
     λ reply. c .moved .ensures _ _ reply ∙ stored-all _ (s .args .image .now) (s .args .map .now) _ (s .args .content .now) _ _ _ _ _ _
-    (c .before .before .before .before .before .before .before .before .before .before .before .before .before .before .product .ensures) (c .before .before .before .before .before .before .before .before .before .before .before .before .put .ensures) (c .before .before .before .before .before .before .before .before .mark .ensures) (c .before .before .before .before .before .last-length .ensures)
+    (t .before .before .product .ensures) (t .put .ensures) (r .before .before .before .mark .ensures) (r .last-length .ensures)
     (c .before .before .completion .ensures) (c .before .with-fragment .ensures) reply
 
 pub store-spec : {M : Type 1} → statement M

@@ -1,4 +1,4 @@
--- `device::replies::number_of` meets its contract. Assumes nothing.
+-- `device::replies::number_of` meets its contract: a reading of another variant is no refusal. Assumes nothing.
 use borrow.Author.Needs.{needs}
 use mathlib.Core.List.{_∷_, []}
 use types.Run.{miss}

@@ -1,4 +1,4 @@
--- `device::steps::handle` meets its contract. Assumes nothing.
+-- `device::steps::handle` meets its contract: each code leads to the handler that promises its message's rule. Assumes nothing.
 use borrow.Author.Needs.{needs}
 use Rattle.device.specs.Rules.{handle}
 use Rattle.device.proofs.Readings.{leads, leads-last}
@@ -42,9 +42,11 @@ same-length c = search needs
 returns : tie.Need-returns
 unfolding handle
 returns c =
-    let s = c .before .before .before .before .before .before .before .before .before .before in
-    leads _ _ _ _ _ _ _ _ 1 (s .args .reading) _ _ (c .before .before .before .before .before .byte-at .ensures) (c .before .before .before .before .match .keys1) (s .pre .1)
-    (λ v e. c .before .before .on-query .ensures .0 e _ _) (λ n e. c .before .before .on-query .ensures .1 n e _ _)
+    let r = c .before .before in
+    let t = r .before .before in
+    let s = t .before .before .before .before .before .before in
+    leads _ _ _ _ _ _ _ _ 1 (s .args .reading) _ _ (t .before .byte-at .ensures) (t .match .keys1) (s .pre .1)
+    (λ v e. r .on-query .ensures .0 e _ _) (λ n e. r .on-query .ensures .1 n e _ _)
 
 same-length-2 : tie.Need-same-length-2
 same-length-2 c = search needs
@@ -58,9 +60,11 @@ same-length-4 c = search needs
 returns-2 : tie.Need-returns-2
 unfolding handle
 returns-2 c =
-    let s = c .before .before .before .before .before .before .before .before .before .before .before .before .before .before .before in
-    leads _ _ _ _ _ _ _ _ 2 (s .args .reading) _ _ (c .before .before .before .before .before .before .before .before .before .before .byte-at .ensures) (c .before .before .before .before .before .before .before .before .before .match .keys2) (s .pre .1)
-    (λ v e. rw (← c .before .before .before .before .before .before .before .before .version-at .ensures) (c .before .before .before .before .on-announce .ensures .0 _ _ _ e)) (λ n e. c .before .before .before .before .on-announce .ensures .1 n e)
+    let r = c .before .before .before .before in
+    let t = r .before .before .before .before .before in
+    let s = t .before .before .before .before .before .before in
+    leads _ _ _ _ _ _ _ _ 2 (s .args .reading) _ _ (t .before .byte-at .ensures) (t .match .keys2) (s .pre .1)
+    (λ v e. rw (← r .before .before .before .before .version-at .ensures) (r .on-announce .ensures .0 _ _ _ e)) (λ n e. r .on-announce .ensures .1 n e)
 
 same-length-5 : tie.Need-same-length-5
 same-length-5 c = search needs
@@ -71,15 +75,18 @@ same-length-6 c = search needs
 returns-3 : tie.Need-returns-3
 unfolding handle
 returns-3 c =
-    let s = c .before .before .before .before .before .before .before .before .before .before .before .before .before .before in
-    leads _ _ _ _ _ _ _ _ 3 (s .args .reading) _ _ (c .before .before .before .before .before .before .before .before .before .byte-at .ensures) (c .before .before .before .before .before .before .before .before .match .keys3) (s .pre .1)
-    (λ v e. rw (← c .before .before .before .before .before .before .before .fragment-data .ensures) (c .before .before .before .before .on-fragment .ensures .0 _ _ e _)) (λ n e. c .before .before .before .before .on-fragment .ensures .1 n e _)
+    let r = c .before .before .before .before in
+    let t = r .before .before .before .before in
+    let s = t .before .before .before .before .before .before in
+    leads _ _ _ _ _ _ _ _ 3 (s .args .reading) _ _ (t .before .byte-at .ensures) (t .match .keys3) (s .pre .1)
+    (λ v e. rw (← r .before .before .before .fragment-data .ensures) (r .on-fragment .ensures .0 _ _ e _)) (λ n e. r .on-fragment .ensures .1 n e _)
 
 returns-4 : tie.Need-returns-4
 unfolding handle
 returns-4 c =
-    let s = c .before .before .before .before .before .before .before in
-    leads _ _ _ _ _ _ _ _ 4 (s .args .reading) _ _ (c .before .before .byte-at .ensures) (c .before .match .keys4) (s .pre .1)
+    let t = c .before in
+    let s = t .before .before .before .before .before .before in
+    leads _ _ _ _ _ _ _ _ 4 (s .args .reading) _ _ (t .before .byte-at .ensures) (t .match .keys4) (s .pre .1)
     (λ v e. c .on-download-reply .ensures .0 _ e _ _ _) (λ n e. c .on-download-reply .ensures .1 n e _ _ _)
 
 same-length-7 : tie.Need-same-length-7
@@ -88,9 +95,11 @@ same-length-7 c = search needs
 returns-5 : tie.Need-returns-5
 unfolding handle
 returns-5 c =
-    let s = c .before .before .before .before .before .before .before .before .before .before in
-    leads _ _ _ _ _ _ _ _ 5 (s .args .reading) _ _ (c .before .before .before .before .before .byte-at .ensures) (c .before .before .before .before .match .keys5) (s .pre .1)
-    (λ v e. c .before .before .on-execute .ensures .0 e _ _) (λ n e. c .before .before .on-execute .ensures .1 n e _ _)
+    let r = c .before .before in
+    let t = r .before .before in
+    let s = t .before .before .before .before .before .before in
+    leads _ _ _ _ _ _ _ _ 5 (s .args .reading) _ _ (t .before .byte-at .ensures) (t .match .keys5) (s .pre .1)
+    (λ v e. r .on-execute .ensures .0 e _ _) (λ n e. r .on-execute .ensures .1 n e _ _)
 
 returns-6 : tie.Need-returns-6
 unfolding handle

@@ -1,4 +1,4 @@
--- `device::steps::install_finished` meets its contract. Assumes nothing.
+-- `device::steps::install_finished` meets its contract: by what the guard tells. Assumes nothing.
 use borrow.Author.Tests.{eq-eqb, ne-eqb}
 use borrow.Author.Needs.{needs}
 use mathlib.Core.Path.{sym}

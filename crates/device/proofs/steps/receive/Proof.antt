@@ -1,4 +1,4 @@
--- `device::steps::receive` meets its contract. Assumes nothing.
+-- `device::steps::receive` meets its contract: behind the guard, what was read has the code in the bytes. Assumes nothing.
 use borrow.Author.Tests.{eq-eqb, ne-eqb}
 use borrow.Author.Needs.{needs}
 use mathlib.Core.Path.{sym, _∙_}

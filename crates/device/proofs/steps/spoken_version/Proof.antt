@@ -1,4 +1,4 @@
--- `device::steps::spoken_version` meets its contract. Assumes nothing.
+-- `device::steps::spoken_version` meets its contract: by the phase. Assumes nothing.
 use borrow.Author.Tests.{eq-eqb, ne-eqb}
 use mathlib.Core.Path.{sym}
 use Rattle.basis.proofs.Choosing.{pick-yes, pick-no}

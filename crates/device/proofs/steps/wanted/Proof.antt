@@ -1,4 +1,4 @@
--- `device::steps::wanted` meets its contract. Assumes nothing.
+-- `device::steps::wanted` meets its contract: phase by phase. Assumes nothing.
 use borrow.Author.Needs.{needs}
 use Rattle.device.proofs.Wanted.{asks-loading, asks-loaded, asks-failed, asks-reporting, asks-nothing}
 use Rattle.device.proofs.steps.wanted.Statement.{statement}

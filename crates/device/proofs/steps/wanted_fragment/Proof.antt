@@ -1,4 +1,4 @@
--- `device::steps::wanted_fragment` meets its contract. Assumes nothing.
+-- `device::steps::wanted_fragment` meets its contract: by whether one is missing. Assumes nothing.
 use borrow.Author.Tests.{lt-ltb, le-ltb}
 use borrow.Author.Needs.{needs}
 use mathlib.Core.Path.{sym}
