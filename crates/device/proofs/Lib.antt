@@ -6,6 +6,7 @@ pub mod Standing
 pub mod Numbers
 pub mod Announced
 pub mod Executed
+pub mod Guarded
 pub mod Fragments
 pub mod Readings
 pub mod RefusedMaking

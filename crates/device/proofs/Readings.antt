@@ -1,45 +1,29 @@
--- Readings as the handlers meet them: which a code leads to, and the exit for any but the one expected. Assumes nothing.
-use Prim.Native.Nat.{ℕ, _-_}
-use mathlib.Core.Path.{_≡_, refl, sym, _∙_}
+-- Readings as the handlers meet them: the exit for any but the one expected, and the rule that a code leads to. Assumes nothing.
+use Prim.Native.Nat.{ℕ, _+_, _≤_}
+use native.Mathlib.Omega.{arith}
+use mathlib.Core.Path.{_≡_, refl, sym, _∙_, ap, subst}
 use mathlib.Core.Bool.{Bool, true, false, not}
 use mathlib.Core.List.{List, [], _∷_}
+use mathlib.Core.Logic.{_⊎_, inl, inr}
 use lib.Dec.{T, eqb}
-use lib.ListN.{getD}
 use mir.Val.{hasKey}
 use types.Run.{OneOf, miss}
 use denote.Enum.Declared.{tagOf}
+use borrow.Enum.Known.{ValuesAt, at, at-one, lives-at}
 use Rattle.message.specs.declared.ToDevice
 use Rattle.message.specs.declared.ToDevice.{ToDevice}
-use Rattle.message.proofs.ToDevice.{the-type}
+use Rattle.message.proofs.ToDevice.{parts, enum, the-type}
 use Rattle.message.specs.Messages.{deviceCode, toDevice}
-use Rattle.codec.specs.Codec.{readOf}
 use Rattle.message.specs.Coded.{deviceMessage}
-use Rattle.codec.proofs.RoundTrip.{device-round-trip}
+use Rattle.codec.specs.Coded.{OfCode}
 use Rattle.device_record.specs.declared.Device.{Device}
 use Rattle.device.specs.declared.Answer.{Answer}
-use Rattle.device.specs.Rules.{refuse, handle, onQuery, onAnnounce, onFragment, onDownloadReply, onExecute, onResultReply}
-use Rattle.device.specs.Coded.{afterCall}
-use Rattle.device.specs.Inner.{Awaited}
+use Rattle.device.specs.Rules.{After, refuse, handle}
+use Rattle.device.specs.Answers.{afterCall}
 
--- where the tag is none of some, and the awaited message's tag is not among them, the reading is a refusal
-pub refusal-left : (keys : List ℕ) (code : ℕ) (m : ToDevice) → T (not (hasKey keys (code - 18))) → OneOf keys (tagOf the-type m) → Awaited code m
-    → (n : ℕ) × (m ≡ ToDevice.Refused n)
-refusal-left keys code (ToDevice.Refused number) h k a = (number, refl)
-refusal-left keys code ToDevice.Query h k a = absurd (miss keys 1 (rw a at h) k)
-refusal-left keys code (ToDevice.Announce size total check) h k a = absurd (miss keys 2 (rw a at h) k)
-refusal-left keys code (ToDevice.Fragment result index) h k a = absurd (miss keys 3 (rw a at h) k)
-refusal-left keys code (ToDevice.DownloadReply result) h k a = absurd (miss keys 4 (rw a at h) k)
-refusal-left keys code ToDevice.Execute h k a = absurd (miss keys 5 (rw a at h) k)
-refusal-left keys code (ToDevice.ResultReply result) h k a = absurd (miss keys 6 (rw a at h) k)
+-- ---- a handler's reading, taken apart
 
-exit : (m : ToDevice) (d : Device) (r : Answer) (n x : ℕ) → m ≡ ToDevice.Refused x → n ≡ x
-    → ((image map reply : List ℕ) → afterCall r image map reply ≡ refuse d image map reply n)
-    → (image map reply version bytes : List ℕ) (condition : ℕ)
-    → afterCall r image map reply ≡ handle d image map reply condition (deviceMessage m version bytes)
-unfolding handle
-exit m d r n x e number left image map reply version bytes condition = left image map reply ∙ rw (number, e)
-
--- the tags of all readings but those of a code
+-- the variants but one
 abbrev dropped : Bool → ℕ → List ℕ → List ℕ
 dropped true k ks = ks
 dropped false k ks = k ∷ ks
@@ -48,79 +32,83 @@ abbrev but : ℕ → List ℕ → List ℕ
 but x [] = []
 but x (k ∷ ks) = dropped (eqb x k) k (but x ks)
 
-abbrev pub others : (code : ℕ) → List ℕ
-others code = but (code - 18) (0 ∷ 1 ∷ 2 ∷ 3 ∷ 4 ∷ 5 ∷ 6 ∷ [])
+abbrev pub others : ℕ → List ℕ
+others k = but k (0 ∷ 1 ∷ 2 ∷ 3 ∷ 4 ∷ 5 ∷ 6 ∷ [])
 
--- the else of every handler
-pub leaves : (code : ℕ) (m : ToDevice) (d : Device) (r : Answer) (n : ℕ) → T (not (hasKey (others code) (code - 18)))
-    → OneOf (others code) (tagOf the-type m) → Awaited code m → ((k : ℕ) → m ≡ ToDevice.Refused k → n ≡ k)
+-- in the else a reading is not of the variant expected
+pub unexpected : {A : Type 0} (m x : ToDevice) → m ≡ x → T (not (hasKey (others (tagOf the-type x)) (tagOf the-type x)))
+    → OneOf (others (tagOf the-type x)) (tagOf the-type m) → A
+unexpected m x e h k =
+    absurd (miss (others (tagOf the-type x)) (tagOf the-type x) h (subst (λ (y : ToDevice). OneOf (others (tagOf the-type x)) (tagOf the-type y)) e k))
+
+-- past it a reading is no refusal
+pub unrefused : {A : Type 0} (m : ToDevice) (k n : ℕ) → m ≡ ToDevice.Refused n → T (not (hasKey (k ∷ []) 0)) → tagOf the-type m ≡ k → A
+unrefused m k n e h t = absurd (miss (k ∷ []) 0 h (subst (λ (y : ToDevice). tagOf the-type y ≡ k) e t))
+
+-- the exit: the number of the refusal is passed on
+pub leaves : (m : ToDevice) (d : Device) (r : Answer) (n : ℕ) → ((k : ℕ) → m ≡ ToDevice.Refused k → n ≡ k)
     → ((image map reply : List ℕ) → afterCall r image map reply ≡ refuse d image map reply n)
-    → (image map reply version bytes : List ℕ) (condition : ℕ)
-    → afterCall r image map reply ≡ handle d image map reply condition (deviceMessage m version bytes)
-leaves code m d r n h k a number left =
-    let (x, e) = refusal-left (others code) code m h k a in
-    exit m d r n x e (number x e) left
+    → (number : ℕ) → m ≡ ToDevice.Refused number → (image map reply : List ℕ) → afterCall r image map reply ≡ refuse d image map reply number
+leaves m d r n told left number e image map reply = left image map reply ∙ ap (refuse d image map reply) (told number e)
 
--- ---- the code of a message leads to the handler that awaits it
+-- what holds of a reading's fields holds of whatever fields it is said to have
+pub of-announce : (P : (size total code : ℕ) → Type 0) (m : ToDevice) (size total code : ℕ) → m ≡ ToDevice.Announce size total code → P size total code
+    → (size′ total′ code′ : ℕ) → m ≡ ToDevice.Announce size′ total′ code′ → P size′ total′ code′
+of-announce P m s t c e p s′ t′ c′ f =
+    subst (λ (v : ValuesAt parts 2). P (v .0) (v .1 .0) (v .1 .1 .0)) (at-one enum 2 (s, (t, (c, tt))) (s′, (t′, (c′, tt))) (sym e ∙ f)) p
 
-pub awaited : (supported pcp : Bool) (bytes version content : List ℕ) (m : ToDevice) → deviceMessage m version content ≡ readOf toDevice supported pcp bytes
-    → Awaited (getD bytes 3 0) m
-unfolding deviceCode
-awaited supported pcp bytes version content (ToDevice.Refused number) e = tt
-awaited supported pcp bytes version content ToDevice.Query e = sym (device-round-trip .read-code supported pcp bytes _ (sym e))
-awaited supported pcp bytes version content (ToDevice.Announce size total check) e = sym (device-round-trip .read-code supported pcp bytes _ (sym e))
-awaited supported pcp bytes version content (ToDevice.Fragment result index) e = sym (device-round-trip .read-code supported pcp bytes _ (sym e))
-awaited supported pcp bytes version content (ToDevice.DownloadReply result) e = sym (device-round-trip .read-code supported pcp bytes _ (sym e))
-awaited supported pcp bytes version content ToDevice.Execute e = sym (device-round-trip .read-code supported pcp bytes _ (sym e))
-awaited supported pcp bytes version content (ToDevice.ResultReply result) e = sym (device-round-trip .read-code supported pcp bytes _ (sym e))
+pub of-fragment : (P : (result index : ℕ) → Type 0) (m : ToDevice) (result index : ℕ) → m ≡ ToDevice.Fragment result index → P result index
+    → (result′ index′ : ℕ) → m ≡ ToDevice.Fragment result′ index′ → P result′ index′
+of-fragment P m r i e p r′ i′ f =
+    subst (λ (v : ValuesAt parts 3). P (v .0) (v .1 .0)) (at-one enum 3 (r, (i, tt)) (r′, (i′, tt)) (sym e ∙ f)) p
 
--- a code is read from the bytes and matched
-pub awaits : (read code k : ℕ) (m : ToDevice) → read ≡ code → read ≡ k → Awaited code m → Awaited k m
-awaits read code k m a b w = rw (sym a ∙ b) at w
+pub of-download : (P : (result : ℕ) → Type 0) (m : ToDevice) (result : ℕ) → m ≡ ToDevice.DownloadReply result → P result
+    → (result′ : ℕ) → m ≡ ToDevice.DownloadReply result′ → P result′
+of-download P m r e p r′ f = subst (λ (v : ValuesAt parts 4). P (v .0)) (at-one enum 4 (r, tt) (r′, tt) (sym e ∙ f)) p
 
--- a code that is none of the five before it is left to the last handler
-awaited-last : (code : ℕ) (m : ToDevice) → (code ≡ 19 → ⊥) → (code ≡ 20 → ⊥) → (code ≡ 21 → ⊥) → (code ≡ 22 → ⊥) → (code ≡ 23 → ⊥)
-    → Awaited code m → Awaited 24 m
-awaited-last code (ToDevice.Refused number) a b c d e k = tt
-awaited-last code ToDevice.Query a b c d e k = absurd (a k)
-awaited-last code (ToDevice.Announce size total check) a b c d e k = absurd (b k)
-awaited-last code (ToDevice.Fragment result index) a b c d e k = absurd (c k)
-awaited-last code (ToDevice.DownloadReply result) a b c d e k = absurd (d k)
-awaited-last code ToDevice.Execute a b c d e k = absurd (e k)
-awaited-last code (ToDevice.ResultReply result) a b c d e k = refl
+last-code : (x : ℕ) → 19 ≤ x → (x ≡ 19 → ⊥) → (x ≡ 20 → ⊥) → (x ≡ 21 → ⊥) → (x ≡ 22 → ⊥) → (x ≡ 23 → ⊥) → 24 ≤ x
+last-code x l n₁ n₂ n₃ n₄ n₅ = omega arith
 
-pub awaits-last : (read code : ℕ) (m : ToDevice) → read ≡ code → (read ≡ 19 → ⊥) → (read ≡ 20 → ⊥) → (read ≡ 21 → ⊥) → (read ≡ 22 → ⊥) → (read ≡ 23 → ⊥)
-    → Awaited code m → Awaited 24 m
-awaits-last read code m e a b c d f w = awaited-last read m a b c d f (awaits code code read m refl (sym e) w)
+-- ---- a code leads to its message's rule: the variants stand in the order of the codes, from 19 on
 
--- ---- a reading that is a message leads to the message's own rule
+module _ (d : Device) (image map reply : List ℕ) (condition : ℕ) (version bytes : List ℕ) (code : ℕ) where
+  abbrev ruled : ToDevice → After
+  ruled m = handle d image map reply condition (deviceMessage m version bytes)
 
-module _ (d : Device) (image map reply : List ℕ) (condition : ℕ) (version bytes : List ℕ) (m : ToDevice) where
-  pub leads-query : m ≡ ToDevice.Query → handle d image map reply condition (deviceMessage m version bytes) ≡ onQuery d image map reply
+  -- a refusal, or the message of the code
+  placed : (m : ToDevice) → OfCode toDevice code (deviceMessage m version bytes)
+      → (tagOf the-type m ≡ 0) ⊎ ((code ≡ 18 + tagOf the-type m) × ((1 ≤ tagOf the-type m) × (tagOf the-type m ≤ 6)))
+  unfolding deviceCode
+  placed (ToDevice.Refused number) c = inl refl
+  placed ToDevice.Query c = inr (sym c, omega arith)
+  placed (ToDevice.Announce size total check) c = inr (sym c, omega arith)
+  placed (ToDevice.Fragment result index) c = inr (sym c, omega arith)
+  placed (ToDevice.DownloadReply result) c = inr (sym c, omega arith)
+  placed ToDevice.Execute c = inr (sym c, omega arith)
+  placed (ToDevice.ResultReply result) c = inr (sym c, omega arith)
+
+  -- what the handler of a message promises is what the reading leads to, where a code that has a message has this one
+  led : (k : ℕ) (m : ToDevice) (a : After) → ((j : ℕ) → code ≡ 18 + j → (1 ≤ j) × (j ≤ 6) → j ≡ k) → OfCode toDevice code (deviceMessage m version bytes)
+      → ((v : ValuesAt parts k) → m ≡ at enum k v → a ≡ ruled (at enum k v))
+      → ((number : ℕ) → m ≡ ToDevice.Refused number → a ≡ refuse d image map reply number)
+      → a ≡ ruled m
   unfolding handle
-  leads-query e = rw e
+  led k m a only c own exit =
+      elim (placed m c) [
+        | inl z ↦ (let (v, f) = lives-at enum m 0 z in exit (v .0) f ∙ sym (ap ruled f))
+        | inr p ↦ (let (v, f) = lives-at enum m k (only _ (p .0) (p .1)) in own v f ∙ sym (ap ruled f))
+      ]
 
-  pub leads-announce : (size total code : ℕ) → m ≡ ToDevice.Announce size total code
-      → handle d image map reply condition (deviceMessage m version bytes)
-      ≡ onAnnounce d image map reply condition (record { version = version; size = size; total = total; code = code })
-  unfolding handle
-  leads-announce size total code e = rw e
+  pub leads : (k : ℕ) (m : ToDevice) (a : After) (read : ℕ) → read ≡ code → read ≡ 18 + k → OfCode toDevice code (deviceMessage m version bytes)
+      → ((v : ValuesAt parts k) → m ≡ at enum k v → a ≡ ruled (at enum k v))
+      → ((number : ℕ) → m ≡ ToDevice.Refused number → a ≡ refuse d image map reply number)
+      → a ≡ ruled m
+  leads k m a read e f = led k m a (λ j p _. omega (arith, e, f, p))
 
-  pub leads-fragment : (result index : ℕ) → m ≡ ToDevice.Fragment result index
-      → handle d image map reply condition (deviceMessage m version bytes) ≡ onFragment d image map reply result index bytes
-  unfolding handle
-  leads-fragment result index e = rw e
-
-  pub leads-download : (result : ℕ) → m ≡ ToDevice.DownloadReply result
-      → handle d image map reply condition (deviceMessage m version bytes) ≡ onDownloadReply d image map reply result
-  unfolding handle
-  leads-download result e = rw e
-
-  pub leads-execute : m ≡ ToDevice.Execute → handle d image map reply condition (deviceMessage m version bytes) ≡ onExecute d image map reply condition
-  unfolding handle
-  leads-execute e = rw e
-
-  pub leads-result : (result : ℕ) → m ≡ ToDevice.ResultReply result
-      → handle d image map reply condition (deviceMessage m version bytes) ≡ onResultReply d image map reply
-  unfolding handle
-  leads-result result e = rw e
+  -- a code that is none of the five before it is left to the last handler
+  pub leads-last : (m : ToDevice) (a : After) (read : ℕ) → read ≡ code
+      → (read ≡ 19 → ⊥) → (read ≡ 20 → ⊥) → (read ≡ 21 → ⊥) → (read ≡ 22 → ⊥) → (read ≡ 23 → ⊥) → OfCode toDevice code (deviceMessage m version bytes)
+      → ((v : ValuesAt parts 6) → m ≡ at enum 6 v → a ≡ ruled (at enum 6 v))
+      → ((number : ℕ) → m ≡ ToDevice.Refused number → a ≡ refuse d image map reply number)
+      → a ≡ ruled m
+  leads-last m a read e n₁ n₂ n₃ n₄ n₅ = led 6 m a (λ j p b. omega (arith, e, p, b, last-code read (omega (arith, e, p, b)) n₁ n₂ n₃ n₄ n₅))

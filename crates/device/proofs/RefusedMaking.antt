@@ -11,7 +11,7 @@ use Rattle.codec.specs.Codec.{Sent, unsent, said}
 use Rattle.device_record.specs.declared.Device.{Device}
 use Rattle.device_record.specs.declared.Made.{Made}
 use Rattle.device_record.specs.Record.{fresh, newOf, recordOk}
-use Rattle.device_record.proofs.Guarded.{asking-passed, receiving-passed}
+use Rattle.device.proofs.Guarded.{asking-passed, receiving-passed}
 use Rattle.device.specs.Rules.{After, refuse, receiveOf, nextMessageOf, installFinishedOf}
 use Rattle.device.specs.RefusedMaking.{Unusable, RefusedMaking}
 
@@ -22,10 +22,10 @@ module _ (d : Device) (broken : recordOk d ≡ false) where
       record {
         receive = λ image map reply supported pcp condition message.
             by-refusal (λ (a : After). (a .number ≢ 0) × (a ≡ refuse d image map reply (a .number))) _ _ _ broken
-            (λ e. receiving-passed d image map reply condition e .1 .kept) (λ n. (n, refl));
+            (λ e. receiving-passed d image map reply condition e .sound) (λ n. (n, refl));
         next-message = λ image map reply.
             by-refusal (λ (r : Reading GatewayMessage). let s : Sent = said toGateway r reply in (s .number ≢ 0) × (s ≡ unsent (s .number) reply)) _ _ _ broken
-            (λ e. asking-passed d image map reply e .kept) (λ n. (n, refl));
+            (λ e. asking-passed d image map reply e .sound) (λ n. (n, refl));
         install-finished = λ code. rw (fails 29 (recordOk d) _ broken);
       }
 

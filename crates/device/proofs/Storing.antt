@@ -13,8 +13,7 @@ use Rattle.basis.proofs.Choosing.{and-both}
 use Rattle.bitmap.specs.Bitmap.{mark}
 use Rattle.device_record.specs.declared.Device.{Device}
 use Rattle.device_record.specs.Record.{loading, acked, holding, recordOk, roomOk, mapBytes, withFragment}
-use Rattle.device.specs.Rules.{fragmentLength, completion, store}
-use Rattle.device.specs.Coded.{afterCall}
+use Rattle.device.specs.Rules.{fragmentLength, completion, moved, store}
 use Rattle.device_decisions.proofs.Tested.{fragment-fits}
 use Rattle.device.proofs.Images.{place-within}
 use Rattle.device_record.proofs.Records.{Ranged, record-kept, room-held}
@@ -49,6 +48,6 @@ pub stored-all : (d : Device) (image map : List ℕ) (index : ℕ) (content : Li
     → at ≡ index * d .fields .size → filled ≡ patched at content image → marks ≡ mark index map
     → last ≡ pick (eqb (index + 1) (d .fields .total)) (length content) (d .last) → phase ≡ completion (d .stored + 1) last (d .fields) filled
     → next ≡ withFragment phase (d .stored + 1) last d → (reply : List ℕ)
-    → afterCall (record { number = 0; length = 0; device = next }) filled marks reply ≡ store d image map reply index content
+    → moved next filled marks reply next ≡ store d image map reply index content
 unfolding store
 stored-all d image map index content at last phase filled marks next a f m l p n reply = rw (n, p, l, f, m, a)

@@ -143,9 +143,9 @@ answers =
     (holds 1 1 0, fragment 0x00 0 (replicate 32 0x41), after 0 0 (holds 1 2 0) (places 0x41 0x42 0) (0x03 ∷ []) (fives 26)) ∷
     []
 
--- asked: record, map; number, length, and the message's code and data
-abbrev pub asked : List (Device × List ℕ × List ℕ)
-asked =
+-- asks: record, map; number, length, and the message's code and data
+abbrev pub asks : List (Device × List ℕ × List ℕ)
+asks =
     (holds 0 0 0, 0x00 ∷ [], 9 ∷ 0 ∷ []) ∷
     (holds 1 1 0, 0x02 ∷ [], 0 ∷ 26 ∷ 21 ∷ (text 2 ++ (0x00 ∷ 0x00 ∷ []))) ∷
     (holds 1 2 0, 0x03 ∷ [], 0 ∷ 26 ∷ 21 ∷ (text 2 ++ (0x00 ∷ 0x02 ∷ []))) ∷
@@ -217,7 +217,7 @@ pub record DeviceCases : Type 0 where
       (λ (r : Device × DeviceMessage × After). handle (r .0) (places 0 0x42 0) (0x02 ∷ []) (fives 26) 0 (found (r .1)))
       (λ r. r .2)
       answers
-  pub ask : Agree (λ (r : Device × List ℕ × List ℕ). answerOf (nextMessageOf (r .0) (zeros 1280) (r .1) (zeros 26))) (λ r. r .2) asked
+  pub ask : Agree (λ (r : Device × List ℕ × List ℕ). answerOf (nextMessageOf (r .0) (zeros 1280) (r .1) (zeros 26))) (λ r. r .2) asks
   pub finish : Agree (λ (r : Device × ℕ × Finished). installFinishedOf (r .0) (r .1)) (λ r. r .2) finished
   pub give-order :
       Agree

@@ -1,22 +1,16 @@
--- What serves the code's own functions, and no promise of the crate: what a handler may take for granted. Assumes nothing.
-use Prim.Native.Nat.{ℕ}
+-- What serves the code's own functions, and no promise of the crate: what is known behind the guard of a message. Assumes nothing.
+use Prim.Native.Nat.{ℕ, _≤_}
 use mathlib.Core.Path.{_≡_}
 use mathlib.Core.Bool.{true}
-use Rattle.message.specs.Messages.{GatewayMessage, gatewayValid, Reading, found, refused}
-use Rattle.message.specs.declared.ToDevice
-use Rattle.message.specs.declared.ToDevice.{ToDevice}
+use mathlib.Core.List.{List}
+use lib.ListN.{length}
+use Rattle.message.specs.Limits.{deviceRoom}
+use Rattle.device_record.specs.declared.Device.{Device}
+use Rattle.device_record.specs.Record.{conditionOk, recordOk, roomOk}
 
--- a reply that the table allows, or none
-abbrev pub Sayable : Reading GatewayMessage → Type 0
-Sayable (found m) = gatewayValid m ≡ true
-Sayable (refused n) = Unit
-
--- the handler of a code is given a message of that code, or a refusal
-abbrev pub Awaited : (code : ℕ) → ToDevice → Type 0
-Awaited code (ToDevice.Refused number) = Unit
-Awaited code ToDevice.Query = code ≡ 19
-Awaited code (ToDevice.Announce size total check) = code ≡ 20
-Awaited code (ToDevice.Fragment result index) = code ≡ 21
-Awaited code (ToDevice.DownloadReply result) = code ≡ 22
-Awaited code ToDevice.Execute = code ≡ 23
-Awaited code (ToDevice.ResultReply result) = code ≡ 24
+-- the tests for 15, 13, 29 and 14 have passed
+pub record Guarded (d : Device) (stated : ℕ) (image map reply : List ℕ) : Type 0 where
+  pub room : deviceRoom ≤ length reply
+  pub condition : conditionOk stated ≡ true
+  pub sound : recordOk d ≡ true
+  pub held : roomOk d image map ≡ true

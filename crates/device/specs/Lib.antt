@@ -1,5 +1,5 @@
 pub mod Rules
-pub mod Coded
+pub mod Answers
 pub mod Inner
 pub mod Cases
 pub mod RefusedMaking

@@ -10,14 +10,14 @@ use borrow.Author.Tests.{le-leb, lt-leb}
 use Rattle.basis.specs.Choice.{pick}
 use Rattle.basis.proofs.Choosing.{pick-yes, pick-no}
 use Rattle.basis.proofs.Lists.{length-part}
+use Rattle.codec.specs.declared.Written.{Written}
 use Rattle.codec.specs.Codec.{Sent}
+use Rattle.codec.specs.Coded.{sent}
 use Rattle.device_record.specs.declared.Device.{Device}
 use Rattle.device_record.specs.declared.Made.{Made}
 use Rattle.device_record.specs.Record.{newOf}
 use Rattle.device.specs.declared.Answer.{Answer}
 use Rattle.device.specs.declared.Finished.{Finished}
-use Rattle.codec.specs.declared.Written.{Written}
-use Rattle.codec.specs.Coded.{sent}
 use Rattle.device.specs.Answers.{afterCall}
 use Rattle.device.specs.Rules as device
 use Rattle.gateway_record.specs.declared.Gateway.{Gateway}

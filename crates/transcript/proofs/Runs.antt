@@ -11,7 +11,7 @@ use Rattle.basis.specs.Choice.{pick}
 use Rattle.basis.proofs.Choosing.{pick-yes, pick-no}
 use Rattle.device.specs.declared.Answer.{Answer}
 use Rattle.device.specs.Rules.{After}
-use Rattle.device.specs.Coded.{afterCall}
+use Rattle.device.specs.Answers.{afterCall}
 use Rattle.capture.specs.Capture.{Item, itemAt, placeAfter, headLength}
 use Rattle.capture.proofs.Steps.{Found, is-found}
 use Rattle.transcript.specs.declared.Turn.{Turn}

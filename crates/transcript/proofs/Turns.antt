@@ -8,7 +8,7 @@ use mathlib.Core.List.{List, []}
 use lib.ListN.{length, take, length-take}
 use Rattle.device.specs.declared.Answer.{Answer}
 use Rattle.device.specs.Rules.{After, receiveOf}
-use Rattle.device.specs.Coded.{afterCall}
+use Rattle.device.specs.Answers.{afterCall}
 use Rattle.capture.specs.declared.Step.{Step}
 use Rattle.capture.specs.declared.Step.the-variants.{Record, End, Fault}
 use Rattle.capture.specs.declared.Walked.{Walked}

@@ -6,7 +6,7 @@ use mathlib.Core.List.{List}
 use lib.ListN.{length}
 use Rattle.basis.specs.Bytes.{patched}
 use Rattle.device.specs.Rules.{After}
-use Rattle.device.specs.Coded.{afterCall}
+use Rattle.device.specs.Answers.{afterCall}
 use Rattle.capture.specs.Capture.{Item, placeAfter}
 use Rattle.transcript.specs.declared.Turn.{Turn}
 use Rattle.transcript.specs.Transcript.{given, line, after, printed, goesOn, Replayed}

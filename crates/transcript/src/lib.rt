@@ -10,7 +10,7 @@ ghost use mathlib.Core.Path.{_≡_};
 ghost use mathlib.Core.Bool.{false};
 ghost use Prim.Native.Nat.{suc, _+_, _≤_};
 ghost use lib.ListN.{length};
-ghost use Rattle.device.specs.Coded.{afterCall};
+ghost use Rattle.device.specs.Answers.{afterCall};
 ghost use Rattle.capture.specs.Capture.{itemAt};
 ghost use Rattle.transcript.specs.Transcript.{captureMost, replyLength, textFrom, lineMost, outRoom, replayOf};
 ghost use Rattle.transcript.specs.Coded.{Emitted, Given, Turned, played};

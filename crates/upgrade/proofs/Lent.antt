@@ -22,7 +22,7 @@ use Rattle.device.proofs.Views.{receive-does, install-does}
 use Rattle.device.proofs.Sound.{Download, Sound, sound-record, sound-room, sound-under, sound-begun, sound-stored, sound-idle, sound-moved, sound-executed}
 use Rattle.device.proofs.Sound.{sound-outcome, sound-does}
 use Rattle.device.proofs.Numbers.{heard-most, ask-neither, install-neither}
-use Rattle.device_record.proofs.Guarded.{asking-passed, receiving-passed}
+use Rattle.device.proofs.Guarded.{asking-passed, receiving-passed}
 
 -- of the image's bytes nothing is asked
 abbrev pub free : Rule
@@ -129,7 +129,7 @@ kept-given d image map reply supported pcp condition message k = at (roomOk d im
     at true e = kept-does d image map _ _ (receive-does d image map reply supported pcp condition message) e k
     at false e =
         by-cases (λ (a : After). Kept (a .device) (a .map))
-        (λ t. absurd (true≢false (sym (receiving-passed d image map reply condition (eqb-true _ 0 t) .1 .held) ∙ e))) (λ _. k)
+        (λ t. absurd (true≢false (sym (receiving-passed d image map reply condition (eqb-true _ 0 t) .held) ∙ e))) (λ _. k)
 
 pub kept-installed : (d : Device) (map : List ℕ) (code : ℕ) → Kept d map → Kept (installFinishedOf d code .device) map
 kept-installed d map code k =
