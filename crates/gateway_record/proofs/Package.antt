@@ -6,16 +6,18 @@ use native.Mathlib.Omega.{arith}
 use mathlib.Core.Path.{_≡_, refl}
 use mathlib.Core.Bool.{Bool, true}
 use mathlib.Core.List.{List}
-use lib.Dec.{eqb}
+use lib.Dec.{eqb, leb}
 use lib.ListN.{length, take, drop, length-take, length-drop}
-use borrow.Author.Tests.{eqb-true, eqb-false}
+use borrow.Author.Tests.{leb-true, eqb-true, eqb-false}
 use Rattle.basis.specs.Choice.{pick}
-use Rattle.basis.proofs.Choosing.{by-cases, passed}
+use Rattle.basis.proofs.Choosing.{pick-yes, by-cases, and-left, and-right, passed}
 use Rattle.checksum.specs.Check.{checkOf}
 use Rattle.message.specs.Limits.{totalMax, sizeOk}
 use Rattle.message.specs.Version.{goodVersion}
-use Rattle.gateway.specs.declared.Started.{Started}
-use Rattle.gateway.specs.Record.{totalOf, lengthOk, fragmentOf, started, startOf, startRefusal}
+use Rattle.gateway_record.specs.declared.Gateway.{Gateway}
+use Rattle.gateway_record.specs.declared.Started.{Started}
+use Rattle.gateway_record.specs.Record.{totalOf, lengthOk, fragmentOf, started, startOf, startRefusal, recordOk}
+use Rattle.gateway_record.proofs.Records.{told}
 
 -- ---- how many fragments there are
 
@@ -43,6 +45,11 @@ module _ (n size : ℕ) (h : 0 < size) where
   unfolding totalOf
   total-most l = omega (arith, div-lt-iff-lt-mul {k = size} {x = n + (size - 1)} {y = suc totalMax} h .1 (omega arith))
 
+-- what 19 does not refuse has a length from 1 to the most fragments of its size, which is then some
+pub length-range : (n size : ℕ) → lengthOk n size ≡ true → (1 ≤ n) × (n ≤ totalMax * size)
+unfolding lengthOk
+length-range n size e = (leb-true 1 n (and-left _ _ e), leb-true n (totalMax * size) (and-right (leb 1 n) _ e))
+
 -- ---- how long each is
 
 module _ (content : List ℕ) (size index : ℕ) where
@@ -67,21 +74,32 @@ module _ (content : List ℕ) (size index : ℕ) where
 -- ---- the start
 
 -- what a start that is answered 0 tells: the record, and that what it is made of is good
-pub record Begun (version : List ℕ) (size : ℕ) (content : List ℕ) (code : ℕ) (s : Started) : Type 0 where
+pub record StartedOn (version : List ℕ) (size : ℕ) (content : List ℕ) (code : ℕ) (s : Started) : Type 0 where
   pub made : s .gateway ≡ started version size (length content) code
   pub version-good : goodVersion version ≡ true
   pub size-ok : sizeOk size ≡ true
   pub length-ok : lengthOk (length content) size ≡ true
 
 pub starts : (version : List ℕ) (size : ℕ) (content : List ℕ) (checked : Bool) → startOf version size content checked .number ≡ 0
-    → Begun version size content (pick checked (checkOf content) 0) (startOf version size content checked)
+    → StartedOn version size content (pick checked (checkOf content) 0) (startOf version size content checked)
 unfolding startOf
 starts version size content checked =
     let n : ℕ = startRefusal version size (length content) in
-    by-cases (λ (s : Started). s .number ≡ 0 → Begun version size content (pick checked (checkOf content) 0) s) {t = eqb n 0}
+    by-cases (λ (s : Started). s .number ≡ 0 → StartedOn version size content (pick checked (checkOf content) 0) s) {t = eqb n 0}
     (λ t _.
     let (v, e₁) = passed 16 (goodVersion version) _ (eqb-true n 0 t) in
     let (k, e₂) = passed 17 (sizeOk size) _ e₁ in
     let (l, _) = passed 18 (lengthOk (length content) size) _ e₂ in
     record { made = refl; version-good = v; size-ok = k; length-ok = l })
     (λ t z. absurd (eqb-false n 0 t z))
+
+-- the total that such a start announces
+pub start-total : (version : List ℕ) (size : ℕ) (content : List ℕ) (checked : Bool) → startOf version size content checked .number ≡ 0
+    → startOf version size content checked .gateway .fields .total ≡ totalOf (length content) size
+start-total version size content checked e =
+    let s = starts version size content checked e in
+    rw (s .made) (pick-yes (lengthOk (length content) size) _ _ (s .length-ok))
+
+-- and that of a record that keeps the rules
+pub good-total : (g : Gateway) → recordOk g ≡ true → g .fields .total ≡ totalOf (g .length) (g .fields .size)
+good-total g e = told g e .total

@@ -9,9 +9,9 @@ use borrow.Author.Tests.{eq-eqb, ne-eqb}
 use Rattle.basis.specs.Choice.{pick}
 use Rattle.basis.proofs.Choosing.{pick-yes, pick-no}
 use Rattle.checksum.specs.Check.{checkOf}
-use Rattle.gateway.specs.declared.Gateway.{Gateway}
-use Rattle.gateway.specs.declared.Started.{Started}
-use Rattle.gateway.specs.Record.{started, startOf, startRefusal}
+use Rattle.gateway_record.specs.declared.Gateway.{Gateway}
+use Rattle.gateway_record.specs.declared.Started.{Started}
+use Rattle.gateway_record.specs.Record.{started, startOf, startRefusal}
 
 module _ (version : List ℕ) (size : ℕ) (content : List ℕ) (checked : Bool) (n : ℕ) (g : Gateway)
     (tested : n ≡ startRefusal version size (length content)) where

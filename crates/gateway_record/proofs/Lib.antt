@@ -1,0 +1,4 @@
+pub mod Package
+pub mod Records
+pub mod Starts
+pub mod Cases
