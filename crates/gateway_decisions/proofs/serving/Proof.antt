@@ -1,0 +1,12 @@
+use Rattle.gateway_decisions.specs.Decisions.{serving}
+use mathlib.Core.Path.{refl}
+-- `gateway_decisions::serving` meets its contract. Assumes nothing.
+use Rattle.gateway_decisions.proofs.serving.Statement.{statement}
+use Rattle.gateway_decisions.proofs.serving.Tie as tie
+
+returns : tie.Need-returns
+unfolding serving
+returns c = refl
+
+pub serving-spec : {M : Type 1} → statement M
+serving-spec = tie.close (tie.spec returns)
