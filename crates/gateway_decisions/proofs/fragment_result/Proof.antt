@@ -18,8 +18,13 @@ pick-requires-2 c κs = search needs
 
 returns : tie.Need-returns
 unfolding fragmentResult
-returns c = rw (c .pick2 .ensures, c .before .pick .ensures, c .before .before .before .same-version .ensures, c .before .before .before .before
-    .serving .ensures)
+returns c = rw (
+  c .pick2 .ensures,
+  c .before .pick .ensures,
+  c .before .before .before .same-version .ensures,
+  c .before .before .before .before
+      .serving .ensures,
+)
 
 pub fragment-result-spec : {M : Type 1} → statement M
 fragment-result-spec =
