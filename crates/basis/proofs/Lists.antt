@@ -139,6 +139,9 @@ take-least xs k at e = go (decLe (length xs) k)
         let p : at ≡ k = omega arith in
         rw p
 
+pub take-min : (n : ℕ) (xs : List ℕ) → take (min n (length xs)) xs ≡ take n xs
+take-min n xs = take-least xs n (min n (length xs)) (omega arith)
+
 -- the part as `part_of` lends it: start and count are stopped at the end
 pub stretched : (xs : List ℕ) (start count from n : ℕ) → from ≡ min start (length xs) → n ≡ min count (length xs - from)
     → take (from + n - from) (drop from xs) ≡ take count (drop start xs)

@@ -8,8 +8,9 @@ use Rattle.message.specs.Version.{printable, front, allZero, goodVersion}
 use Rattle.message.specs.Recognition.{startHolds, versionByteHolds, codeHolds, checkHolds, lengthHolds, recognition}
 use Rattle.message.specs.Messages.{deviceCode, deviceData, gatewayCode, gatewayData, gatewayValid, gatewayFields, installCode}
 use Rattle.codec.specs.Codec.{sealed, frame, bytesOf, readOf, said}
-use Rattle.gateway.specs.Record.{totalOf, lengthOk, fragmentOf, startOf, recordOk}
-use Rattle.gateway.specs.Rules.{asked, serving, fragmentReply, onQueryReply, onAnnounceReply, onFragmentRequest, onDownloadReport}
+use Rattle.gateway_record.specs.Record.{totalOf, lengthOk, fragmentOf, recordOk}
+use Rattle.gateway_decisions.specs.Decisions.{afterQuery, serving, fragmentResult, installEnding}
+use Rattle.gateway.specs.Rules.{fragmentReply, onQueryReply, onAnnounceReply, onFragmentRequest, onDownloadReport}
 use Rattle.gateway.specs.Rules.{onExecuteReply, onResultReport, handle, receiveOf, wanted, nextMessageOf}
 use Rattle.gateway.specs.Cases.{GatewayCases}
 
@@ -17,14 +18,10 @@ pub gateway-cases : GatewayCases
 unfolding pick refusal oneOf part same over doubled entryOf step register checkOf zeroed messageCheck
     sizeOk totalOk isWord printable front allZero goodVersion startHolds versionByteHolds codeHolds checkHolds lengthHolds recognition
     deviceCode deviceData gatewayCode gatewayData gatewayValid gatewayFields installCode sealed frame bytesOf readOf said
-    totalOf lengthOk fragmentOf startOf recordOk asked serving fragmentReply
+    totalOf lengthOk fragmentOf recordOk afterQuery serving fragmentResult installEnding fragmentReply
     onQueryReply onAnnounceReply onFragmentRequest onDownloadReport onExecuteReply onResultReport handle receiveOf wanted nextMessageOf
 gateway-cases =
     record {
-      total = refl;
-      length = refl;
-      start = refl;
-      record-is = refl;
       step = refl;
       answer = refl;
       ask = refl;

@@ -1,10 +1,7 @@
-pub mod Package
-pub mod Cuts
-pub mod Guards
-pub mod Starts
+pub mod Readings
 pub mod Handling
 pub mod Saying
-pub mod Calls
+pub mod GuardedCalls
 pub mod RefusedStart
 pub mod Views
 pub mod Cases

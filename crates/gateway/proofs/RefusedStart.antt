@@ -8,12 +8,12 @@ use Rattle.basis.proofs.Choosing.{by-cases, by-refusal}
 use Rattle.message.specs.Version.{printable, front, allZero, goodVersion}
 use Rattle.message.specs.Messages.{DeviceMessage, Reading, toDevice}
 use Rattle.codec.specs.Codec.{Sent, unsent, said}
-use Rattle.gateway.specs.declared.Gateway.{Gateway}
-use Rattle.gateway.specs.declared.Started.{Started}
-use Rattle.gateway.specs.Record.{started, startOf, recordOk}
+use Rattle.gateway_record.specs.declared.Gateway.{Gateway}
+use Rattle.gateway_record.specs.declared.Started.{Started}
+use Rattle.gateway_record.specs.Record.{started, startOf, recordOk}
 use Rattle.gateway.specs.Rules.{After, refuse, receiveOf, nextMessageOf}
 use Rattle.gateway.specs.RefusedStart.{Unusable, RefusedStart}
-use Rattle.gateway.proofs.Calls.{guarded}
+use Rattle.gateway.proofs.GuardedCalls.{guarded}
 
 module _ (g : Gateway) (broken : recordOk g ≡ false) where
   unusable : Unusable g
@@ -24,7 +24,8 @@ module _ (g : Gateway) (broken : recordOk g ≡ false) where
             by-refusal (λ (a : After). (a .number ≢ 0) × (a ≡ refuse g content reply (a .number))) _ _ _ broken
             (λ e. guarded g content reply _ refl e .sound) (λ n. (n, refl));
         next-message = λ content reply.
-            by-refusal (λ (r : Reading DeviceMessage). let s : Sent = said toDevice r reply in (s .number ≢ 0) × (s ≡ unsent (s .number) reply)) _ _ _ broken
+            by-refusal (λ (r : Reading DeviceMessage). let s : Sent = said toDevice r reply in (s .number ≢ 0) × (s ≡ unsent
+            (s .number) reply)) _ _ _ broken
             (λ e. guarded g content reply _ refl e .sound) (λ n. (n, refl));
       }
 

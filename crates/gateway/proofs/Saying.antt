@@ -1,105 +1,105 @@
--- What the gateway sends is valid, so that writing it only says it. Assumes nothing.
+-- What the gateway sends is one that 01's table allows, and fits the reply buffer: it is always said. Assumes nothing.
 use Prim.Native.Nat.{ℕ, _*_, _≤_, _<_}
 use native.Mathlib.Omega.{arith}
-use mathlib.Core.Path.{_≡_, refl, _∙_}
-use mathlib.Core.Bool.{true, _&&_}
-use mathlib.Core.List.{List, [], _∷_}
-use lib.Dec.{leb}
-use lib.ListN.{length}
-use types.Run.{OneOf, miss}
-use denote.Enum.Declared.{tagOf}
-use borrow.Author.Tests.{le-leb, lt-ltb, leb-true, eq-eqb, ne-eqb}
-use Rattle.basis.specs.Choice.{oneOf}
-use Rattle.basis.proofs.Choosing.{pick-yes, pick-no, and-left, and-right, and-both}
-use Rattle.message.proofs.ToDevice.{the-type}
+use mathlib.Core.Path.{_≡_, refl, _∙_, ap}
+use mathlib.Core.Bool.{Bool, true}
+use mathlib.Core.List.{List, []}
+use lib.Dec.{eqb}
+use lib.ListN.{length, take, drop}
+use borrow.Author.Tests.{le-leb, lt-ltb, eq-eqb, ne-eqb, eqb-true, eqb-false}
+use Rattle.basis.proofs.Choosing.{by-cases, pick-yes, pick-no, and-both}
+use Rattle.message.specs.Limits.{sizeMax, totalMax, totalOk, isWord, gatewayRoom}
+use Rattle.message.specs.Messages.{DeviceMessage, query, announce, fragment, execute, fragmentOk, deviceValid, Reading, found, toDevice}
+use Rattle.codec.specs.declared.Written.{Written}
+use Rattle.codec.specs.Codec.{Sent, said, spoken}
+use Rattle.codec.specs.Coded.{sent, Sayable}
 use Rattle.codec.proofs.RoundTrip.{device-round-trip}
-use Rattle.message.specs.declared.ToDevice
-use Rattle.message.specs.declared.ToDevice.{ToDevice}
-use Rattle.message.specs.Limits.{sizeMin, sizeMax, sizeOk, totalMax, totalOk, isWord, gatewayRoom}
-use Rattle.message.specs.Version.{goodVersion}
-use Rattle.message.specs.Messages.{announce, fragment, fragmentOk, deviceValid, toDevice}
-use Rattle.codec.specs.Codec.{Sent, writeOf, said}
-use Rattle.message.specs.Coded.{deviceMessage}
-use Rattle.gateway.specs.declared.Gateway.{Gateway}
-use Rattle.gateway.specs.Record.{totalOf, lengthOk, fragmentOf, offered, recordOk}
-use Rattle.gateway.specs.Inner.{Sayable}
-use Rattle.gateway.proofs.Package.{total-most, total-some, stretch-fits, stretch-some}
+use Rattle.codec.proofs.Speaking.{spoken-said}
+use Rattle.gateway_record.specs.declared.Gateway.{Gateway}
+use Rattle.gateway_record.specs.Record.{totalOf, fragmentOf, recordOk}
+use Rattle.gateway_record.proofs.Package.{total-most, total-some, stretch-fits, stretch-some}
+use Rattle.gateway_record.proofs.Records.{told}
+use Rattle.gateway_decisions.specs.Decisions.{fragmentResult}
+use Rattle.gateway_decisions.proofs.Served.{given-tells, denied-tells}
+use Rattle.gateway.specs.Rules.{replied, fragmentReply, wanted}
+use Rattle.gateway.specs.Answers.{afterCall}
+use Rattle.gateway.specs.Inner.{Guarded}
 
--- ---- what is allowed is written, and so said
+-- a reply with the gateway after it
+pub reply-said : (w : Written) (g : Gateway) (content reply out : List ℕ) (r : Reading DeviceMessage) (m : DeviceMessage)
+    → sent w out ≡ spoken toDevice r reply → gatewayRoom ≤ length reply → Sayable toDevice r → r ≡ found m
+    → afterCall (record { number = w .number; length = w .length; gateway = g }) out ≡ replied g content reply g m
+unfolding said
+reply-said w g content reply out r m e room v q =
+    ap (λ (s : Sent). record { number = s .number; length = s .length; gateway = g; reply = s .buffer })
+    (e ∙ spoken-said toDevice device-round-trip r reply room v ∙ ap (λ (x : Reading DeviceMessage). said toDevice x reply) q)
 
-module _ (version content reply : List ℕ) where
-  pub spoken : (message : ToDevice) → gatewayRoom ≤ length reply → Sayable (deviceMessage message version content)
-      → OneOf (1 ∷ 2 ∷ 3 ∷ 4 ∷ 5 ∷ 6 ∷ []) (tagOf the-type message)
-      → writeOf toDevice (deviceMessage message version content) reply ≡ said toDevice (deviceMessage message version content) reply
-  unfolding said
-  spoken (ToDevice.Refused n) h v o = absurd (miss (1 ∷ 2 ∷ 3 ∷ 4 ∷ 5 ∷ 6 ∷ []) 0 tt o)
-  spoken ToDevice.Query h v o = device-round-trip .sent-valid _ v reply h
-  spoken (ToDevice.Announce size total code) h v o = device-round-trip .sent-valid _ v reply h
-  spoken (ToDevice.Fragment result index) h v o = device-round-trip .sent-valid _ v reply h
-  spoken (ToDevice.DownloadReply result) h v o = device-round-trip .sent-valid _ v reply h
-  spoken ToDevice.Execute h v o = device-round-trip .sent-valid _ v reply h
-  spoken (ToDevice.ResultReply result) h v o = device-round-trip .sent-valid _ v reply h
-
-  pub unsaid : (message : ToDevice) (n : ℕ) → message ≡ ToDevice.Refused n
-      → _≡_ {A = Sent} (record { number = n; length = 0; buffer = reply }) (said toDevice (deviceMessage message version content) reply)
-  unfolding said
-  unsaid message n e = rw e
-
--- ---- what a record tells that passed 29
-
-pub record Sound (g : Gateway) : Type 0 where
-  pub version : goodVersion (g .version) ≡ true
-  pub size : sizeOk (g .size) ≡ true
-  pub low : sizeMin ≤ g .size
-  pub high : g .size ≤ sizeMax
-  pub some : 1 ≤ g .length
-  pub most : g .length ≤ totalMax * g .size
-
-pub told : (g : Gateway) → recordOk g ≡ true → Sound g
-unfolding recordOk sizeOk lengthOk
-told g e =
-    let texts = and-right (leb (g .phase) 4 && leb (g .ending) 5) _ e in
-    let numbers = and-right (goodVersion (g .version)) _ texts in
-    let sizes = and-left (leb sizeMin (g .size) && leb (g .size) sizeMax) _ numbers in
-    let lengths = and-right (leb sizeMin (g .size) && leb (g .size) sizeMax) _ numbers in
-    record {
-      version = and-left _ _ texts;
-      size = sizes;
-      low = leb-true _ _ (and-left _ _ sizes);
-      high = leb-true _ _ (and-right (leb sizeMin (g .size)) _ sizes);
-      some = leb-true _ _ (and-left _ _ lengths);
-      most = leb-true _ _ (and-right (leb 1 (g .length)) _ lengths);
-    }
-
--- ---- the messages that the gateway sends
-
-pub word-ok : (n : ℕ) → n < 65536 → isWord n ≡ true
+word-ok : (n : ℕ) → n < 65536 → isWord n ≡ true
 unfolding isWord
 word-ok n h = lt-ltb n 65536 h
 
--- the announcement
-pub offer-allowed : (g : Gateway) → recordOk g ≡ true → g .code < 65536 → deviceValid (announce (offered g)) ≡ true
+-- ---- the announcement, and what else there is to say
+
+offer-allowed : (g : Gateway) → recordOk g ≡ true → g .fields .code < 65536 → deviceValid (announce (g .fields)) ≡ true
 unfolding deviceValid totalOk
 offer-allowed g e h =
     let s = told g e in
-    let t : totalOf (g .length) (g .size) ≤ totalMax = total-most (g .length) (g .size) (omega (arith, s .low)) (s .most) in
-    let u : 1 ≤ totalOf (g .length) (g .size) = total-some (g .length) (g .size) (omega (arith, s .low)) (s .some) in
-    and-both (s .version) (and-both (s .size) (and-both (and-both (le-leb _ _ u) (le-leb (totalOf (g .length) (g .size)) totalMax t)) (word-ok (g .code) h)))
+    let t : totalOf (g .length) (g .fields .size) ≤ totalMax = total-most (g .length) (g .fields .size) (omega (arith, s .low)) (s .most) in
+    let u : 1 ≤ totalOf (g .length) (g .fields .size) = total-some (g .length) (g .fields .size) (omega (arith, s .low)) (s .some) in
+    and-both (s .version) (and-both (s .size) (and-both (and-both (le-leb 1 (g .fields .total) (omega (arith, u, s .total)))
+    (le-leb (g .fields .total) totalMax (omega (arith, t, s .total)))) (word-ok (g .fields .code) h)))
 
--- 80 and 81 carry the index and no data
-pub fragment-none : (result index : ℕ) → oneOf result (0x80 ∷ 0x81 ∷ []) ≡ true → (result ≡ 0 → ⊥) → index < 65536
-    → deviceValid (fragment result index []) ≡ true
-unfolding deviceValid fragmentOk
-fragment-none result index o n h = and-both (word-ok index h) (pick-no _ _ _ (ne-eqb _ _ n) ∙ and-both o refl)
+query-allowed : Sayable toDevice (found query)
+unfolding deviceValid
+query-allowed = refl
 
--- 00 carries a fragment of the package, whose length is the one at the start
-pub fragment-some : (g : Gateway) (content part : List ℕ) (index total : ℕ) → recordOk g ≡ true → length content ≡ g .length → index < 65536
-    → part ≡ fragmentOf content (g .size) index → total ≡ totalOf (g .length) (g .size) → index < total → deviceValid (fragment 0x00 index part) ≡ true
-unfolding deviceValid fragmentOk
-fragment-some g content part index total e w h p q k =
-    let s = told g e in
-    let a : 1 ≤ length (fragmentOf content (g .size) index) = stretch-some content (g .size) index (omega (arith, s .low)) (rw (w, ← q) k) in
-    let b : length (fragmentOf content (g .size) index) ≤ g .size = stretch-fits content (g .size) index in
-    rw p
-    (and-both (word-ok index h)
-    (pick-yes _ _ _ (eq-eqb 0 0 refl) ∙ and-both (le-leb _ _ a) (le-leb (length (fragmentOf content (g .size) index)) sizeMax (omega (arith, s .high)))))
+execute-allowed : Sayable toDevice (found execute)
+unfolding deviceValid
+execute-allowed = refl
+
+pub wanted-allowed : (g : Gateway) → recordOk g ≡ true → g .fields .code < 65536 → Sayable toDevice (wanted g)
+unfolding wanted
+wanted-allowed g e h =
+    let P : Reading DeviceMessage → Type 0 = Sayable toDevice in
+    by-cases P (λ _. query-allowed) λ _. by-cases P (λ _. offer-allowed g e h) λ _. by-cases P (λ _. execute-allowed) λ _. tt
+
+-- ---- the reply to 21
+
+module _ (g : Gateway) (content version : List ℕ) (index : ℕ) where
+  -- as the code makes it: a result alone, or with the part that it cut
+  pub fragment-denied : (result : ℕ) → result ≡ fragmentResult (g .phase) (g .fields) version index → (result ≡ 0x00 → ⊥)
+      → fragment result index [] ≡ fragmentReply g content version index
+  unfolding fragmentReply
+  fragment-denied result e n = rw (← e, pick-no (eqb result 0x00) (fragmentOf content (g .fields .size) index) [] (ne-eqb result 0x00 n))
+
+  pub fragment-given : (result : ℕ) (part : List ℕ) → result ≡ fragmentResult (g .phase) (g .fields) version index → result ≡ 0x00
+      → part ≡ take (g .fields .size) (drop (index * g .fields .size) content) → fragment result index part ≡ fragmentReply g content version index
+  unfolding fragmentReply fragmentOf
+  fragment-given result part e z p = rw (p, ← e, pick-yes (eqb result 0x00) (fragmentOf content (g .fields .size) index) [] (eq-eqb result 0x00 z))
+
+  -- 80 and 81 carry no data, and 00 a fragment of the package, whose length is the one at the start
+  pub fragment-allowed : (reply : List ℕ) → Guarded g content reply → index < 65536 → deviceValid (fragmentReply g content version index) ≡ true
+  unfolding deviceValid fragmentReply fragmentOk
+  fragment-allowed reply k h =
+      let result : ℕ = fragmentResult (g .phase) (g .fields) version index in
+      let whole : List ℕ = fragmentOf content (g .fields .size) index in
+      let s = told g (k .sound) in
+      and-both (word-ok index h)
+      (by-cases (λ (t : Bool). t ≡ true)
+      (λ z.
+      let l : index < g .fields .total = given-tells (g .phase) (g .fields) version index (eqb-true result 0x00 z) .1 in
+      let a : 1 ≤ length whole = stretch-some content (g .fields .size) index (omega (arith, s .low)) (rw (k .whole, ← s .total) l) in
+      let b : length whole ≤ g .fields .size = stretch-fits content (g .fields .size) index in
+      rw (pick-yes (eqb result 0x00) whole [] z) (and-both (le-leb 1 (length whole) a) (le-leb (length whole) sizeMax (omega (arith, b, s .high)))))
+      (λ n.
+      rw (pick-no (eqb result 0x00) whole [] n)
+      (and-both (denied-tells (g .phase) (g .fields) version index (eqb-false result 0x00 n)) refl)))
+
+  pub denied-allowed : (reply : List ℕ) → Guarded g content reply → (result : ℕ) → result ≡ fragmentResult (g .phase) (g .fields) version index
+      → (result ≡ 0x00 → ⊥) → index < 65536 → deviceValid (fragment result index []) ≡ true
+  denied-allowed reply k result e n h = rw (fragment-denied result e n) (fragment-allowed reply k h)
+
+  pub given-allowed : (reply : List ℕ) → Guarded g content reply → (result : ℕ) (part : List ℕ)
+      → result ≡ fragmentResult (g .phase) (g .fields) version index → result ≡ 0x00
+      → part ≡ take (g .fields .size) (drop (index * g .fields .size) content) → index < 65536 → deviceValid (fragment result index part) ≡ true
+  given-allowed reply k result part e z p h = rw (fragment-given result part e z p) (fragment-allowed reply k h)

@@ -1,75 +1,31 @@
--- The gateway's calls in computed cases: total and length of a package, the start (17, 18, 19), the record (29), what each message brings in
--- each phase, what is said when asked, and the refusals in their order. What a row says is written from 01, "The gateway" and "Numbers
--- returned". Assumes nothing.
+-- The gateway's calls in computed cases: what each message brings in each phase, what is said when asked, and the refusals in their order. What
+-- a row says is written from 01, "The gateway" and "Numbers returned". Assumes nothing.
 use Prim.Native.Nat.{ℕ}
 use mathlib.Core.Bool.{Bool, true, false}
 use mathlib.Core.List.{List, [], _∷_, _++_}
 use lib.ListN.{take, drop, replicate}
 use Rattle.basis.specs.Cases.{Agree}
-use Rattle.message.specs.Cases.{text, noText}
+use Rattle.message.specs.Cases.{text}
 use Rattle.message.specs.Messages.{GatewayMessage, queryReply, announceReply, fragmentRequest, downloadReport, executeReply, resultReport, found}
 use Rattle.codec.specs.Codec.{Sent}
-use Rattle.gateway.specs.declared.Gateway.{Gateway}
-use Rattle.gateway.specs.declared.Started.{Started}
-use Rattle.gateway.specs.Record.{totalOf, lengthOk, startOf, recordOk}
+use Rattle.gateway_record.specs.declared.Gateway.{Gateway}
+use Rattle.gateway_record.specs.Cases.{gateway, content}
 use Rattle.gateway.specs.Rules.{After, handle, receiveOf, nextMessageOf}
 
--- phase, ending number; version, size, length and check code of the package
-abbrev pub gateway : (phase ending : ℕ) → List ℕ → (size length code : ℕ) → Gateway
-gateway phase ending version size length code =
-    record { phase = phase; ending = ending; version = version; size = size; length = length; code = code }
-
--- a package of 33 bytes: at size 32, two fragments. Its check is 7281
-abbrev pub content : List ℕ
-content = replicate 32 0x41 ++ (0x42 ∷ [])
-
--- V2 is that package, with a check code that no start gives it, so that a row shows where the code goes
+-- V2 is the package of 33 bytes, with a check code that no start gives it, so that a row shows where the code goes
 abbrev pub offers : (phase ending : ℕ) → Gateway
-offers phase ending = gateway phase ending (text 2) 32 33 0x1234
+offers phase ending = gateway phase ending (text 2) 32 2 0x1234 33
 
 abbrev pub zeros : ℕ → List ℕ
 zeros n = replicate n 0
 
--- length, size; total
-abbrev pub totals : List (ℕ × ℕ × ℕ)
-totals = (1, 32, 1) ∷ (32, 32, 1) ∷ (33, 32, 2) ∷ (64, 32, 2) ∷ (65, 32, 3) ∷ (2097120, 32, 65535) ∷ []
-
--- length, size; neither empty nor longer than 65,535 fragments
-abbrev pub lengths : List (ℕ × ℕ × Bool)
-lengths = (0, 32, false) ∷ (1, 32, true) ∷ (2097120, 32, true) ∷ (2097121, 32, false) ∷ (32767500, 500, true) ∷ (32767501, 500, false) ∷ []
-
--- version, size, package, whether its check is the code; number, gateway
-abbrev pub starts : List (List ℕ × ℕ × List ℕ × Bool × Started)
-starts =
-    (text 2, 32, content, false, record { number = 0; gateway = gateway 0 0 (text 2) 32 33 0x0000 }) ∷
-    (text 2, 32, content, true, record { number = 0; gateway = gateway 0 0 (text 2) 32 33 0x7281 }) ∷
-    -- 17, 18, 19 in their order
-    (noText, 31, [], true, record { number = 17; gateway = gateway 0 0 (zeros 16) 0 0 0 }) ∷
-    (text 2, 31, [], true, record { number = 18; gateway = gateway 0 0 (zeros 16) 0 0 0 }) ∷
-    (text 2, 32, [], true, record { number = 19; gateway = gateway 0 0 (zeros 16) 0 0 0 }) ∷
-    []
-
--- a record, and whether it keeps the rules (29)
-abbrev pub kept : List (Gateway × Bool)
-kept =
-    (gateway 0 0 (text 2) 32 1 0, true) ∷
-    (gateway 4 5 (text 2) 500 32767500 65535, true) ∷
-    (gateway 5 0 (text 2) 32 33 0, false) ∷
-    (gateway 4 6 (text 2) 32 33 0, false) ∷
-    (gateway 0 0 noText 32 33 0, false) ∷
-    (gateway 0 0 (text 2) 31 33 0, false) ∷
-    (gateway 0 0 (text 2) 501 33 0, false) ∷
-    (gateway 0 0 (text 2) 32 0 0, false) ∷
-    (gateway 0 0 (text 2) 32 2097121 0, false) ∷
-    []
-
 -- code and data of a message of n bytes at the front of a buffer
-abbrev pub spoken : (n : ℕ) → List ℕ → List ℕ
-spoken n reply = take 1 (drop 3 (take n reply)) ++ drop 8 (take n reply)
+abbrev pub codeAndData : (n : ℕ) → List ℕ → List ℕ
+codeAndData n reply = take 1 (drop 3 (take n reply)) ++ drop 8 (take n reply)
 
 -- number, phase, ending number, and the reply's code and data
 abbrev pub outcome : After → List ℕ
-outcome a = a .number ∷ a .gateway .phase ∷ a .gateway .ending ∷ spoken (a .length) (a .reply)
+outcome a = a .number ∷ a .gateway .phase ∷ a .gateway .ending ∷ codeAndData (a .length) (a .reply)
 
 -- phase, message; number, phase, ending number, reply
 abbrev pub steps : List (ℕ × GatewayMessage × List ℕ)
@@ -135,15 +91,15 @@ declined = 0xFF ∷ 0xFE ∷ 0x01 ∷ 0x16 ∷ 0x14 ∷ 0x86 ∷ 0x00 ∷ 0x01 �
 -- phase, message; refused, moved on, ended, replied
 abbrev pub answers : List (ℕ × GatewayMessage × After)
 answers =
-    (1, queryReply 0x00 (text 1), after 9 0 (gateway 1 0 (text 2) 32 33 0x1234) (fives 511)) ∷
-    (0, queryReply 0x00 (text 1), after 0 0 (gateway 1 0 (text 2) 32 33 0x1234) (fives 511)) ∷
-    (3, executeReply 0x04, after 0 0 (gateway 4 4 (text 2) 32 33 0x1234) (fives 511)) ∷
-    (0, downloadReport 0x00, after 0 9 (gateway 0 0 (text 2) 32 33 0x1234) (declined ++ fives 502)) ∷
+    (1, queryReply 0x00 (text 1), after 9 0 (offers 1 0) (fives 511)) ∷
+    (0, queryReply 0x00 (text 1), after 0 0 (offers 1 0) (fives 511)) ∷
+    (3, executeReply 0x04, after 0 0 (offers 4 4) (fives 511)) ∷
+    (0, downloadReport 0x00, after 0 9 (offers 0 0) (declined ++ fives 502)) ∷
     []
 
 -- asked: phase; number, length, and the message's code and data
-abbrev pub asked : List (ℕ × List ℕ)
-asked =
+abbrev pub asks : List (ℕ × List ℕ)
+asks =
     (0, 0 ∷ 8 ∷ 19 ∷ []) ∷
     (1, 0 ∷ 30 ∷ 20 ∷ (text 2 ++ (0x00 ∷ 0x20 ∷ 0x00 ∷ 0x02 ∷ 0x12 ∷ 0x34 ∷ []))) ∷
     (2, 9 ∷ 0 ∷ []) ∷
@@ -177,16 +133,12 @@ asking =
     []
 
 abbrev pub answerOf : Sent → List ℕ
-answerOf s = s .number ∷ s .length ∷ spoken (s .length) (s .buffer)
+answerOf s = s .number ∷ s .length ∷ codeAndData (s .length) (s .buffer)
 
 pub record GatewayCases : Type 0 where
-  pub total : Agree (λ (r : ℕ × ℕ × ℕ). totalOf (r .0) (r .1)) (λ r. r .2) totals
-  pub length : Agree (λ (r : ℕ × ℕ × Bool). lengthOk (r .0) (r .1)) (λ r. r .2) lengths
-  pub start : Agree (λ (r : List ℕ × ℕ × List ℕ × Bool × Started). startOf (r .0) (r .1) (r .2) (r .3)) (λ r. r .4) starts
-  pub record-is : Agree (λ (r : Gateway × Bool). recordOk (r .0)) (λ r. r .1) kept
   pub step : Agree (λ (r : ℕ × GatewayMessage × List ℕ). outcome (handle (offers (r .0) 0) content (zeros 511) (found (r .1)))) (λ r. r .2) steps
   pub answer : Agree (λ (r : ℕ × GatewayMessage × After). handle (offers (r .0) 0) content (fives 511) (found (r .1))) (λ r. r .2) answers
-  pub ask : Agree (λ (r : ℕ × List ℕ). answerOf (nextMessageOf (offers (r .0) 0) content (zeros 511))) (λ r. r .1) asked
+  pub ask : Agree (λ (r : ℕ × List ℕ). answerOf (nextMessageOf (offers (r .0) 0) content (zeros 511))) (λ r. r .1) asks
   pub give-order :
       Agree (λ (r : ℕ × Gateway × List ℕ × Bool × List ℕ × ℕ). (receiveOf (r .1) (r .2) (zeros (r .0)) (r .3) true (r .4)) .number) (λ r. r .5) given
   pub ask-order : Agree (λ (r : ℕ × Gateway × List ℕ × ℕ). (nextMessageOf (r .1) (r .2) (zeros (r .0))) .number) (λ r. r .3) asking

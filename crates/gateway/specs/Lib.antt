@@ -1,7 +1,5 @@
-pub mod Record
-pub mod Stretch
 pub mod Rules
-pub mod Coded
+pub mod Answers
 pub mod Inner
 pub mod Cases
 pub mod RefusedStart

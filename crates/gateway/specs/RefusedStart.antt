@@ -5,8 +5,8 @@ use mathlib.Core.Logic.{_≢_}
 use mathlib.Core.Bool.{Bool}
 use mathlib.Core.List.{List}
 use Rattle.codec.specs.Codec.{Sent, unsent}
-use Rattle.gateway.specs.declared.Gateway.{Gateway}
-use Rattle.gateway.specs.Record.{startOf}
+use Rattle.gateway_record.specs.declared.Gateway.{Gateway}
+use Rattle.gateway_record.specs.Record.{startOf}
 use Rattle.gateway.specs.Rules.{After, refuse, receiveOf, nextMessageOf}
 
 -- every call with the record answers a number other than 0, and changes nothing

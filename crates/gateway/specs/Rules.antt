@@ -1,18 +1,18 @@
 -- The gateway's steps: 01, "The gateway", with the refusals of "Numbers returned" in their order. Assumes nothing.
 use Prim.Native.Nat.{ℕ}
-use mathlib.Core.Bool.{Bool, _&&_, _||_}
+use mathlib.Core.Bool.{Bool}
 use mathlib.Core.List.{List, []}
-use lib.Dec.{eqb, ltb}
+use lib.Dec.{eqb}
 use lib.ListN.{length}
 use Rattle.basis.specs.Choice.{pick}
 use Rattle.basis.specs.Numbers.{noUse}
-use Rattle.basis.specs.Bytes.{same, over}
+use Rattle.basis.specs.Bytes.{over}
 use Rattle.message.specs.Messages.{DeviceMessage, query, announce, fragment, downloadReply, execute, resultReply, GatewayMessage, queryReply, announceReply}
 use Rattle.message.specs.Messages.{fragmentRequest, downloadReport, executeReply, resultReport, Reading, found, refused, toDevice, toGateway}
 use Rattle.codec.specs.Codec.{Sent, bytesOf, readOf, said}
-use Rattle.gateway.specs.declared.Gateway.{Gateway}
-use Rattle.gateway.specs.Record.{ask, offer, serve, run, success, alreadyRunning, notAccepted, downloadFailed, notExecuted, upgradeFailed, totalOf}
-use Rattle.gateway.specs.Record.{fragmentOf, offered, inPhase, endedWith, callRefusal}
+use Rattle.gateway_record.specs.declared.Gateway.{Gateway}
+use Rattle.gateway_record.specs.Record.{ask, offer, serve, run, notAccepted, downloadFailed, notExecuted, fragmentOf, inPhase, endedWith, callRefusal}
+use Rattle.gateway_decisions.specs.Decisions.{afterQuery, fragmentResult, installEnding}
 
 -- what a call leaves: the number, the length of the reply, the record, and the reply buffer
 pub record After : Type 0 where
@@ -21,20 +21,11 @@ pub record After : Type 0 where
   pub gateway : Gateway
   pub reply : List ℕ
 
--- 19 answer in Ask: the target already runs, else Offer
-unfoldable pub asked : Gateway → (version : List ℕ) → Gateway
-asked g version = pick (same version (g .version)) (endedWith alreadyRunning g) (inPhase offer g)
-
--- Serve or Run: fragments are given
-unfoldable pub serving : ℕ → Bool
-serving phase = eqb phase serve || eqb phase run
-
--- 21: the fragment, or 80 for another version or phase, or 81 for an index past the last
+-- 21: the fragment with 00, else a result alone
 unfoldable pub fragmentReply : Gateway → (content version : List ℕ) (index : ℕ) → DeviceMessage
 fragmentReply g content version index =
-    pick (serving (g .phase) && same version (g .version))
-    (pick (ltb index (totalOf (g .length) (g .size))) (fragment 0x00 index (fragmentOf content (g .size) index)) (fragment 0x81 index []))
-    (fragment 0x80 index [])
+    let result : ℕ = fragmentResult (g .phase) (g .fields) version index in
+    fragment result index (pick (eqb result 0x00) (fragmentOf content (g .fields .size) index) [])
 
 module _ (g : Gateway) (content reply : List ℕ) where
   -- a refusal: nothing written, reply length 0
@@ -52,7 +43,7 @@ module _ (g : Gateway) (content reply : List ℕ) where
   -- ---- the six messages
 
   unfoldable pub onQueryReply : (version : List ℕ) → After
-  onQueryReply version = pick (eqb (g .phase) ask) (moved (asked g version)) (refuse noUse)
+  onQueryReply version = pick (eqb (g .phase) ask) (moved (afterQuery g version)) (refuse noUse)
 
   unfoldable pub onAnnounceReply : (result : ℕ) → After
   onAnnounceReply result =
@@ -74,7 +65,7 @@ module _ (g : Gateway) (content reply : List ℕ) where
   unfoldable pub onResultReport : (result : ℕ) (version : List ℕ) → After
   onResultReport result version =
       pick (eqb (g .phase) run)
-      (replied (endedWith (pick (eqb result 0x00 && same version (g .version)) success upgradeFailed) g) (resultReply 0x00))
+      (replied (endedWith (installEnding (g .fields) result version) g) (resultReply 0x00))
       (replied g (resultReply 0x80))
 
   -- what a reading leads to
@@ -98,7 +89,7 @@ module _ (g : Gateway) (content reply : List ℕ) where
 unfoldable pub wanted : Gateway → Reading DeviceMessage
 wanted g =
     pick (eqb (g .phase) ask) (found query)
-    (pick (eqb (g .phase) offer) (found (announce (offered g)))
+    (pick (eqb (g .phase) offer) (found (announce (g .fields)))
     (pick (eqb (g .phase) run) (found execute)
     (refused noUse)))
 

@@ -1,37 +1,33 @@
-// What the handlers answer with.
+// What a handler answers with.
 use crate::Answer;
-use crate::Gateway;
-use crate::Said;
 use basis::number::NO_USE;
+use gateway_record::Gateway;
 use message::ToDevice;
 use message::ToGateway;
 ghost use mathlib.Core.Path.{_≡_};
-ghost use mathlib.Core.List.{List, []};
+ghost use mathlib.Core.List.{List};
 ghost use Prim.Native.Nat.{ℕ, _≤_};
 ghost use lib.ListN.{length};
 ghost use Rattle.message.specs.Limits.{gatewayRoom};
-ghost use Rattle.message.specs.Messages.{toDevice};
-ghost use Rattle.codec.specs.Codec.{said};
+ghost use Rattle.message.specs.Messages.{DeviceMessage, found, toDevice};
 ghost use Rattle.message.specs.Coded.{deviceMessage};
-ghost use Rattle.gateway.specs.Rules.{refuse, moved};
-ghost use Rattle.gateway.specs.Coded.{after, saidInto};
-ghost use Rattle.gateway.specs.Inner.{withReply, numberOf, Sayable};
+ghost use Rattle.codec.specs.Coded.{Sayable};
+ghost use Rattle.gateway.specs.Rules.{refuse, moved, replied};
+ghost use Rattle.gateway.specs.Answers.{afterCall};
 
-// The number of a reading that a handler did not expect: that of the refusal, or 9 for a message that
-// is another handler's.
+// The number of a reading that is no message.
 pub(crate) fn number_of(message: ToGateway) -> u8
-    ensures { λ r. ⌜ r ≡ numberOf message ⌝ }
+    ensures { λ r. ⌜ ((n : ℕ) → message ≡ ToGateway.Refused n → r ≡ n) ⌝ }
 {
-    if let ToGateway::Refused(number) = message {
-        number
-    } else {
-        NO_USE
+    match message {
+        ToGateway::Refused(number) => number,
+        _ => NO_USE,
     }
 }
 
-// A refusal: the record as it was, and no reply.
+// Nothing is done, and nothing said.
 pub(crate) fn refused(gateway: Gateway, number: u8) -> Answer
-    ensures { λ r. ⌜ ((content reply : List ℕ) → after r reply ≡ refuse gateway content reply number) ⌝ }
+    ensures { λ r. ⌜ ((content reply : List ℕ) → afterCall r reply ≡ refuse gateway content reply number) ⌝ }
 {
     Answer {
         number,
@@ -40,9 +36,9 @@ pub(crate) fn refused(gateway: Gateway, number: u8) -> Answer
     }
 }
 
-// Handled, with no reply.
+// Handled, and nothing said.
 pub(crate) fn moved(gateway: Gateway) -> Answer
-    ensures { λ r. ⌜ ((content reply : List ℕ) → after r reply ≡ moved gateway content reply gateway) ⌝ }
+    ensures { λ r. ⌜ ((content reply : List ℕ) → afterCall r reply ≡ moved gateway content reply gateway) ⌝ }
 {
     Answer {
         number: 0,
@@ -51,45 +47,24 @@ pub(crate) fn moved(gateway: Gateway) -> Answer
     }
 }
 
-// Says a message that the table allows into a buffer with room for it, or why there is none.
-pub(crate) fn say(message: ToDevice, version: [u8; 16], content: &[u8], reply: &mut [u8]) -> Said
-    requires { ⌜ (gatewayRoom ≤ length (now reply)) × Sayable (deviceMessage message version (now content)) ⌝ }
-    ensures { λ r. ⌜ saidInto r (now (reply .exit)) ≡ said toDevice (deviceMessage message version (now (content .entry))) (now (reply .entry)) ⌝ }
-{
-    if let ToDevice::Refused(number) = message {
-        return Said { number, length: 0 };
-    }
-    let written = codec::write_to_device(message, version, content, reply);
-    Said {
-        number: written.number,
-        length: written.length,
-    }
-}
-
-// Handled, with a reply. No reply carries a version.
+// Handled, with a reply: the buffer has room for every one. No reply carries a version.
 pub(crate) fn replied(
     gateway: Gateway,
     message: ToDevice,
     content: &[u8],
     reply: &mut [u8],
 ) -> Answer
-    requires { ⌜ (gatewayRoom ≤ length (now reply)) × Sayable (deviceMessage message (gateway .version) (now content)) ⌝ }
-    ensures { λ r. ⌜ after r (now (reply .exit))
-        ≡ withReply gateway (said toDevice (deviceMessage message (gateway .version) (now (content .entry))) (now (reply .entry))) ⌝ }
+    requires { ⌜ gatewayRoom ≤ length (now reply) ⌝ }
+    requires { ⌜ Sayable toDevice (deviceMessage message (gateway .fields .version) (now content)) ⌝ }
+    ensures { λ r. ⌜ ((m : DeviceMessage) → deviceMessage message (gateway .fields .version) (now (content .entry)) ≡ found m
+        → afterCall r (now (reply .exit)) ≡ replied gateway (now (content .entry)) (now (reply .entry)) gateway m) ⌝ }
 {
-    let version = gateway.version;
-    let said = say(message, version, content, reply);
+    let fields = gateway.fields;
+    let version = fields.version;
+    let written = codec::say_to_device(message, version, content, reply);
     Answer {
-        number: said.number,
-        length: said.length,
+        number: written.number,
+        length: written.length,
         gateway,
     }
-}
-
-// Handled, with a reply that carries no fragment.
-pub(crate) fn replied_bare(gateway: Gateway, message: ToDevice, reply: &mut [u8]) -> Answer
-    requires { ⌜ (gatewayRoom ≤ length (now reply)) × Sayable (deviceMessage message (gateway .version) []) ⌝ }
-    ensures { λ r. ⌜ after r (now (reply .exit)) ≡ withReply gateway (said toDevice (deviceMessage message (gateway .version) []) (now (reply .entry))) ⌝ }
-{
-    replied(gateway, message, b"", reply)
 }

@@ -98,13 +98,6 @@ pub started-fields : (version : List ℕ) (size : ℕ) (content : List ℕ) (cod
     → s .gateway .fields ≡ record { version = version; size = size; total = totalOf (length content) size; code = code }
 started-fields version size content code s = rw (s .made, pick-yes (lengthOk (length content) size) _ 0 (s .length-ok))
 
--- the total that such a start announces
-pub start-total : (version : List ℕ) (size : ℕ) (content : List ℕ) (checked : Bool) → startOf version size content checked .number ≡ 0
-    → startOf version size content checked .gateway .fields .total ≡ totalOf (length content) size
-start-total version size content checked e =
-    let s = starts version size content checked e in
-    rw (s .made) (pick-yes (lengthOk (length content) size) _ _ (s .length-ok))
-
--- and that of a record that keeps the rules
+-- the total of a record that keeps the rules
 pub good-total : (g : Gateway) → recordOk g ≡ true → g .fields .total ≡ totalOf (g .length) (g .fields .size)
 good-total g e = told g e .total

@@ -7,6 +7,7 @@ use mathlib.Core.Bool.{Bool, true, false}
 use mathlib.Core.List.{List, []}
 use lib.ListN.{length, take, length-take}
 use Rattle.device.specs.declared.Answer.{Answer}
+use Rattle.basis.proofs.Lists.{take-min}
 use Rattle.device.specs.Rules.{After, receiveOf}
 use Rattle.device.specs.Answers.{afterCall}
 use Rattle.capture.specs.declared.Step.{Step}
@@ -14,7 +15,6 @@ use Rattle.capture.specs.declared.Step.the-variants.{Record, End, Fault}
 use Rattle.capture.specs.declared.Walked.{Walked}
 use Rattle.capture.specs.Capture.{Item, itemAt, placeAfter, Walk, walkAt, partOf}
 use Rattle.capture.specs.Coded.{itemOf, told}
-use Rattle.capture.proofs.Parts.{take-min}
 use Rattle.transcript.specs.declared.Turn.{Turn}
 use Rattle.transcript.specs.Text.{newline, numberText, lineText}
 use Rattle.transcript.specs.Transcript.{replyLength, given, line, after, printed, goesOn, lineMost}

@@ -1,7 +1,8 @@
+use Rattle.gateway.proofs.Handling.{announce-elsewhere, announce-here}
+use mathlib.Core.Path.{_∙_}
+use Rattle.gateway.proofs.Readings.{unexpected, unrefused, leaves}
 -- `gateway::handlers::on_announce_reply` meets its contract: another reading, another phase, and the rule. Assumes nothing.
 use borrow.Author.Needs.{needs}
-use mathlib.Core.Path.{_∙_}
-use Rattle.gateway.proofs.Handling.{leaves, announce-elsewhere, announce-here}
 use Rattle.gateway.proofs.handlers.on_announce_reply.Statement.{statement}
 use Rattle.gateway.proofs.handlers.on_announce_reply.Tie as tie
 
@@ -15,16 +16,19 @@ refused-requires : tie.Need-refused-requires
 refused-requires c κs = search needs
 
 returns : tie.Need-returns
-returns c version content reply = c .refused .ensures content reply
-    ∙ leaves _ content reply (c .before .before .before .args .message) 2 tt version _ (c .before .before .match .keys2)
-    (c .before .before .before .pre) (c .before .number-of .ensures)
+returns c = (
+  λ r e k b. unexpected _ _ e tt (c .before .before .match .keys2),
+  λ n e k b. leaves _ _ _ _ (c .before .number-of .ensures) (c .refused .ensures) n e k b,
+)
 
 refused-requires-2 : tie.Need-refused-requires-2
 refused-requires-2 c κs = search needs
 
 returns-2 : tie.Need-returns-2
-returns-2 c version content reply = c .refused2 .ensures content reply
-    ∙ announce-elsewhere _ content reply _ _ version (c .before .before .before .message .given .1) (c .before .if1 .taken)
+returns-2 c = (
+  λ r e k b. c .refused2 .ensures k b ∙ announce-elsewhere _ k b r (c .before .if1 .taken),
+  λ n e k b. unrefused _ 2 n e tt (c .before .before .before .before .before .match .keys1),
+)
 
 in-phase-requires : tie.Need-in-phase-requires
 in-phase-requires c κs = search needs
@@ -39,11 +43,12 @@ moved-requires : tie.Need-moved-requires
 moved-requires c κs = search needs
 
 returns-3 : tie.Need-returns-3
-returns-3 c version content reply =
-    c .moved .ensures content reply
-    ∙ announce-here _ content reply _ _ version _ _ _ (c .before .before .before .before .before .before .message .given .1)
-    (c .before .before .before .before .if1 .left) (c .before .by-result .ensures) (c .before .before .before .in-phase .ensures)
-    (c .before .before .ended-with .ensures)
+returns-3 c = (
+  λ r e k b. c .moved .ensures k b ∙ announce-here _ k b _ _ _ _ _ (c .before .before .before .before .if1 .left) (c .before .by-result .ensures)
+      (c .before .before .before .in-phase .ensures)
+      (c .before .before .ended-with .ensures) r e (c .before .before .before .before .before .before .before .message .given .1),
+  λ n e k b. unrefused _ 2 n e tt (c .before .before .before .before .before .before .before .before .match .keys1),
+)
 
 pub on-announce-reply-spec : {M : Type 1} → statement M
 on-announce-reply-spec =

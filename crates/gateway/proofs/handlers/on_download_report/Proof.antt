@@ -1,9 +1,10 @@
+use Rattle.gateway.proofs.Handling.{download-served, download-running, download-elsewhere}
+use Rattle.gateway.proofs.Readings.{unexpected, unrefused, leaves}
+use Rattle.message.specs.Messages.{deviceValid}
+use Rattle.basis.specs.Choice.{oneOf}
+use mathlib.Core.Path.{_∙_, refl}
 -- `gateway::handlers::on_download_report` meets its contract: another reading, and the rule by the phase. Assumes nothing.
 use borrow.Author.Needs.{needs}
-use mathlib.Core.Path.{refl, _∙_}
-use Rattle.basis.specs.Choice.{oneOf}
-use Rattle.message.specs.Messages.{deviceValid}
-use Rattle.gateway.proofs.Handling.{leaves, download-served, download-running, download-elsewhere}
 use Rattle.gateway.proofs.handlers.on_download_report.Statement.{statement}
 use Rattle.gateway.proofs.handlers.on_download_report.Tie as tie
 
@@ -17,8 +18,10 @@ refused-requires : tie.Need-refused-requires
 refused-requires c κs = search needs
 
 returns : tie.Need-returns
-returns c version content = c .refused .ensures content _ ∙ leaves _ content _ (c .before .before .before .before .args .message) 4 tt version _
-    (c .before .before .match .keys2) (c .before .before .before .before .pre .0) (c .before .number-of .ensures)
+returns c = (
+  λ r e k. unexpected _ _ e tt (c .before .before .match .keys2),
+  λ n e k. leaves _ _ _ _ (c .before .number-of .ensures) (c .refused .ensures) n e k _,
+)
 
 in-phase-requires : tie.Need-in-phase-requires
 in-phase-requires c κs = search needs
@@ -29,43 +32,59 @@ ended-with-requires c κs = search needs
 by-result-requires : tie.Need-by-result-requires
 by-result-requires c κs = search needs
 
-replied-bare-requires : tie.Need-replied-bare-requires
+slice-aggregate-replied : tie.Need-slice-aggregate-replied
+slice-aggregate-replied c = search needs
+
+replied-requires : tie.Need-replied-requires
 unfolding deviceValid oneOf
-replied-bare-requires c κs = (c .before .before .before .before .before .before .before .before .before .pre .1, refl)
+replied-requires c κs = (c .before .before .before .before .before .before .before .before .before .before .before .pre, refl)
 
 same-length : tie.Need-same-length
 same-length c = search needs
 
 returns-2 : tie.Need-returns-2
-returns-2 c version content =
-    c .before .before .replied-bare .ensures
-    ∙ download-served _ content _ _ _ version _ _ _ (c .before .before .before .before .before .before .before .before .before .message .given .1)
-    (c .before .before .before .before .before .before .before .if1 .taken) (c .before .before .before .before .by-result .ensures)
-    (c .before .before .before .before .before .before .in-phase .ensures) (c .before .before .before .before .before .ended-with .ensures)
+returns-2 c = (
+  λ r e k. c .before .before .replied .ensures _ refl ∙ download-served _ k _ _ _ _ _ _
+      (c .before .before .before .before .before .before .before .before .if1 .taken)
+      (c .before .before .before .before .before .by-result .ensures) (c .before .before .before .before .before .before .before .in-phase .ensures)
+      (c .before .before .before .before .before .before .ended-with .ensures) r e
+      (c .before .before .before .before .before .before .before .before .before .before .before .message .given .1),
+  λ n e k. unrefused _ 4 n e tt (c .before .before .before .before .before .before .before .before .before .before .before .before .match .keys1),
+)
 
-replied-bare-requires-2 : tie.Need-replied-bare-requires-2
+slice-aggregate-replied-2 : tie.Need-slice-aggregate-replied-2
+slice-aggregate-replied-2 c = search needs
+
+replied-requires-2 : tie.Need-replied-requires-2
 unfolding deviceValid oneOf
-replied-bare-requires-2 c κs = (c .before .before .before .before .before .before .before .pre .1, refl)
+replied-requires-2 c κs = (c .before .before .before .before .before .before .before .before .before .before .pre, refl)
 
 same-length-2 : tie.Need-same-length-2
 same-length-2 c = search needs
 
 returns-3 : tie.Need-returns-3
-returns-3 c version content = c .before .before .replied-bare2 .ensures
-    ∙ download-running _ content _ _ _ version (c .before .before .before .before .before .before .before .message .given .1)
-    (c .before .before .before .before .before .if1 .left) (c .before .before .before .before .if2 .taken)
+returns-3 c = (
+  λ r e k. c .before .before .replied2 .ensures _ refl ∙ download-running _ k _ r
+      (c .before .before .before .before .before .before .before .if1 .left) (c .before .before .before .before .before .if2 .taken),
+  λ n e k. unrefused _ 4 n e tt (c .before .before .before .before .before .before .before .before .before .before .before .match .keys1),
+)
 
-replied-bare-requires-3 : tie.Need-replied-bare-requires-3
+slice-aggregate-replied-3 : tie.Need-slice-aggregate-replied-3
+slice-aggregate-replied-3 c = search needs
+
+replied-requires-3 : tie.Need-replied-requires-3
 unfolding deviceValid oneOf
-replied-bare-requires-3 c κs = (c .before .before .before .before .before .before .before .pre .1, refl)
+replied-requires-3 c κs = (c .before .before .before .before .before .before .before .before .before .before .pre, refl)
 
 same-length-3 : tie.Need-same-length-3
 same-length-3 c = search needs
 
 returns-4 : tie.Need-returns-4
-returns-4 c version content = c .before .before .replied-bare3 .ensures
-    ∙ download-elsewhere _ content _ _ _ version (c .before .before .before .before .before .before .before .message .given .1)
-    (c .before .before .before .before .before .if1 .left) (c .before .before .before .before .if2 .left)
+returns-4 c = (
+  λ r e k. c .before .before .replied3 .ensures _ refl ∙ download-elsewhere _ k _ r
+      (c .before .before .before .before .before .before .before .if1 .left) (c .before .before .before .before .before .if2 .left),
+  λ n e k. unrefused _ 4 n e tt (c .before .before .before .before .before .before .before .before .before .before .before .match .keys1),
+)
 
 pub on-download-report-spec : {M : Type 1} → statement M
 on-download-report-spec =
@@ -78,12 +97,15 @@ on-download-report-spec =
     in-phase-requires
     ended-with-requires
     by-result-requires
-    replied-bare-requires
+    slice-aggregate-replied
+    replied-requires
     same-length
     returns-2
-    replied-bare-requires-2
+    slice-aggregate-replied-2
+    replied-requires-2
     same-length-2
     returns-3
-    replied-bare-requires-3
+    slice-aggregate-replied-3
+    replied-requires-3
     same-length-3
     returns-4)

@@ -1,7 +1,8 @@
+use Rattle.gateway.proofs.Handling.{execute-elsewhere, execute-here}
+use mathlib.Core.Path.{_∙_}
+use Rattle.gateway.proofs.Readings.{unexpected, unrefused, leaves}
 -- `gateway::handlers::on_execute_reply` meets its contract: another reading, another phase, and the rule. Assumes nothing.
 use borrow.Author.Needs.{needs}
-use mathlib.Core.Path.{_∙_}
-use Rattle.gateway.proofs.Handling.{leaves, execute-elsewhere, execute-here}
 use Rattle.gateway.proofs.handlers.on_execute_reply.Statement.{statement}
 use Rattle.gateway.proofs.handlers.on_execute_reply.Tie as tie
 
@@ -15,16 +16,19 @@ refused-requires : tie.Need-refused-requires
 refused-requires c κs = search needs
 
 returns : tie.Need-returns
-returns c version content reply = c .refused .ensures content reply
-    ∙ leaves _ content reply (c .before .before .before .args .message) 5 tt version _ (c .before .before .match .keys2)
-    (c .before .before .before .pre) (c .before .number-of .ensures)
+returns c = (
+  λ r e k b. unexpected _ _ e tt (c .before .before .match .keys2),
+  λ n e k b. leaves _ _ _ _ (c .before .number-of .ensures) (c .refused .ensures) n e k b,
+)
 
 refused-requires-2 : tie.Need-refused-requires-2
 refused-requires-2 c κs = search needs
 
 returns-2 : tie.Need-returns-2
-returns-2 c version content reply = c .refused2 .ensures content reply
-    ∙ execute-elsewhere _ content reply _ _ version (c .before .before .before .message .given .1) (c .before .if1 .taken)
+returns-2 c = (
+  λ r e k b. c .refused2 .ensures k b ∙ execute-elsewhere _ k b r (c .before .if1 .taken),
+  λ n e k b. unrefused _ 5 n e tt (c .before .before .before .before .before .match .keys1),
+)
 
 ended-with-requires : tie.Need-ended-with-requires
 ended-with-requires c κs = search needs
@@ -36,10 +40,12 @@ moved-requires : tie.Need-moved-requires
 moved-requires c κs = search needs
 
 returns-3 : tie.Need-returns-3
-returns-3 c version content reply =
-    c .moved .ensures content reply
-    ∙ execute-here _ content reply _ _ version _ _ (c .before .before .before .before .before .message .given .1)
-    (c .before .before .before .if1 .left) (c .before .by-result .ensures) (c .before .before .ended-with .ensures)
+returns-3 c = (
+  λ r e k b. c .moved .ensures k b ∙ execute-here _ k b _ _ _ _ (c .before .before .before .if1 .left) (c .before .by-result .ensures)
+      (c .before .before .ended-with .ensures)
+      r e (c .before .before .before .before .before .before .message .given .1),
+  λ n e k b. unrefused _ 5 n e tt (c .before .before .before .before .before .before .before .match .keys1),
+)
 
 pub on-execute-reply-spec : {M : Type 1} → statement M
 on-execute-reply-spec =

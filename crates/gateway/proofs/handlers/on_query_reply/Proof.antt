@@ -1,7 +1,8 @@
+use Rattle.gateway.proofs.Handling.{query-elsewhere, query-here}
+use mathlib.Core.Path.{_∙_}
+use Rattle.gateway.proofs.Readings.{unexpected, unrefused, leaves}
 -- `gateway::handlers::on_query_reply` meets its contract: another reading, another phase, and the rule. Assumes nothing.
 use borrow.Author.Needs.{needs}
-use mathlib.Core.Path.{_∙_}
-use Rattle.gateway.proofs.Handling.{leaves, query-elsewhere, query-here}
 use Rattle.gateway.proofs.handlers.on_query_reply.Statement.{statement}
 use Rattle.gateway.proofs.handlers.on_query_reply.Tie as tie
 
@@ -15,26 +16,31 @@ refused-requires : tie.Need-refused-requires
 refused-requires c κs = search needs
 
 returns : tie.Need-returns
-returns c content reply = c .refused .ensures content reply ∙ leaves _ content reply (c .before .before .before .args .message) 1 tt _ _
-    (c .before .before .match .keys2) (c .before .before .before .pre) (c .before .number-of .ensures)
+returns c = (
+  λ r e k b. unexpected _ _ e tt (c .before .before .match .keys2),
+  λ n e k b. leaves _ _ _ _ (c .before .number-of .ensures) (c .refused .ensures) n e k b,
+)
 
 refused-requires-2 : tie.Need-refused-requires-2
 refused-requires-2 c κs = search needs
 
 returns-2 : tie.Need-returns-2
-returns-2 c content reply = c .refused2 .ensures content reply
-    ∙ query-elsewhere _ content reply _ _ _ (c .before .before .before .message .given .1) (c .before .if1 .taken)
+returns-2 c = (
+  λ r e k b. c .refused2 .ensures k b ∙ query-elsewhere _ k b _ (c .before .if1 .taken),
+  λ n e k b. unrefused _ 1 n e tt (c .before .before .before .before .before .match .keys1),
+)
 
-asked-requires : tie.Need-asked-requires
-asked-requires c κs = search needs
+after-query-requires : tie.Need-after-query-requires
+after-query-requires c κs = search needs
 
 moved-requires : tie.Need-moved-requires
 moved-requires c κs = search needs
 
 returns-3 : tie.Need-returns-3
-returns-3 c content reply =
-    c .moved .ensures content reply
-    ∙ query-here _ content reply _ _ _ _ (c .before .before .before .before .message .given .1) (c .before .before .if1 .left) (c .before .asked .ensures)
+returns-3 c = (
+  λ r e k b. c .moved .ensures k b ∙ query-here _ k b _ _ (c .before .before .if1 .left) (c .before .after-query .ensures),
+  λ n e k b. unrefused _ 1 n e tt (c .before .before .before .before .before .before .match .keys1),
+)
 
 pub on-query-reply-spec : {M : Type 1} → statement M
 on-query-reply-spec =
@@ -46,6 +52,6 @@ on-query-reply-spec =
     returns
     refused-requires-2
     returns-2
-    asked-requires
+    after-query-requires
     moved-requires
     returns-3)

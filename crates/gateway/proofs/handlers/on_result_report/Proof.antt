@@ -1,9 +1,10 @@
+use Rattle.gateway.proofs.Handling.{result-elsewhere, result-here}
+use Rattle.gateway.proofs.Readings.{unexpected, unrefused, leaves}
+use Rattle.message.specs.Messages.{deviceValid}
+use Rattle.basis.specs.Choice.{oneOf}
+use mathlib.Core.Path.{_∙_, refl}
 -- `gateway::handlers::on_result_report` meets its contract: another reading, and the rule by the phase. Assumes nothing.
 use borrow.Author.Needs.{needs}
-use mathlib.Core.Path.{refl, _∙_}
-use Rattle.basis.specs.Choice.{oneOf}
-use Rattle.message.specs.Messages.{deviceValid}
-use Rattle.gateway.proofs.Handling.{leaves, result-elsewhere, result-here}
 use Rattle.gateway.proofs.handlers.on_result_report.Statement.{statement}
 use Rattle.gateway.proofs.handlers.on_result_report.Tie as tie
 
@@ -17,19 +18,26 @@ refused-requires : tie.Need-refused-requires
 refused-requires c κs = search needs
 
 returns : tie.Need-returns
-returns c content = c .refused .ensures content _ ∙ leaves _ content _ (c .before .before .before .before .args .message) 6 tt _ _
-    (c .before .before .match .keys2) (c .before .before .before .before .pre .0) (c .before .number-of .ensures)
+returns c = (
+  λ r e k. unexpected _ _ e tt (c .before .before .match .keys2),
+  λ n e k. leaves _ _ _ _ (c .before .number-of .ensures) (c .refused .ensures) n e k _,
+)
 
-replied-bare-requires : tie.Need-replied-bare-requires
+slice-aggregate-replied : tie.Need-slice-aggregate-replied
+slice-aggregate-replied c = search needs
+
+replied-requires : tie.Need-replied-requires
 unfolding deviceValid oneOf
-replied-bare-requires c κs = (c .before .before .before .before .before .before .pre .1, refl)
+replied-requires c κs = (c .before .before .before .before .before .before .before .before .pre, refl)
 
 same-length : tie.Need-same-length
 same-length c = search needs
 
 returns-2 : tie.Need-returns-2
-returns-2 c content = c .before .before .replied-bare .ensures
-    ∙ result-elsewhere _ content _ _ _ _ (c .before .before .before .before .before .before .message .given .1) (c .before .before .before .before .if1 .taken)
+returns-2 c = (
+  λ r e k. c .before .before .replied .ensures _ refl ∙ result-elsewhere _ k _ r _ (c .before .before .before .before .before .if1 .taken),
+  λ n e k. unrefused _ 6 n e tt (c .before .before .before .before .before .before .before .before .before .match .keys1),
+)
 
 install-ending-requires : tie.Need-install-ending-requires
 install-ending-requires c κs = search needs
@@ -37,18 +45,24 @@ install-ending-requires c κs = search needs
 ended-with-requires : tie.Need-ended-with-requires
 ended-with-requires c κs = search needs
 
-replied-bare-requires-2 : tie.Need-replied-bare-requires-2
+slice-aggregate-replied-2 : tie.Need-slice-aggregate-replied-2
+slice-aggregate-replied-2 c = search needs
+
+replied-requires-2 : tie.Need-replied-requires-2
 unfolding deviceValid oneOf
-replied-bare-requires-2 c κs = (c .before .before .before .before .before .before .before .before .pre .1, refl)
+replied-requires-2 c κs = (c .before .before .before .before .before .before .before .before .before .before .before .pre, refl)
 
 same-length-2 : tie.Need-same-length-2
 same-length-2 c = search needs
 
 returns-3 : tie.Need-returns-3
-returns-3 c content = c .before .before .replied-bare2 .ensures
-    ∙ result-here _ content _ _ _ _ _ _ (c .before .before .before .before .before .before .before .before .message .given .1)
-    (c .before .before .before .before .before .before .if1 .left) (c .before .before .before .before .before .install-ending .ensures)
-    (c .before .before .before .before .ended-with .ensures)
+returns-3 c = (
+  λ r e k. c .before .before .replied2 .ensures _ refl ∙ result-here _ k _ _ _ _ _ _
+      (c .before .before .before .before .before .before .before .before .if1 .left)
+      (c .before .before .before .before .before .before .install-ending .ensures) (c .before .before .before .before .before .ended-with .ensures)
+      r e (c .before .before .before .before .before .before .before .before .before .before .before .message .given .1),
+  λ n e k. unrefused _ 6 n e tt (c .before .before .before .before .before .before .before .before .before .before .before .before .match .keys1),
+)
 
 pub on-result-report-spec : {M : Type 1} → statement M
 on-result-report-spec =
@@ -58,11 +72,13 @@ on-result-report-spec =
     number-of-requires
     refused-requires
     returns
-    replied-bare-requires
+    slice-aggregate-replied
+    replied-requires
     same-length
     returns-2
     install-ending-requires
     ended-with-requires
-    replied-bare-requires-2
+    slice-aggregate-replied-2
+    replied-requires-2
     same-length-2
     returns-3)

@@ -1,12 +1,12 @@
+use Rattle.gateway.proofs.GuardedCalls.{guarded, receive-refused, receive-handled, code-told}
+use mathlib.Core.Path.{_∙_}
 -- `gateway::receive` meets its contract: the guard's number, or what the handler left. Assumes nothing.
 use borrow.Author.Needs.{needs}
-use mathlib.Core.Path.{_∙_}
-use Rattle.gateway.proofs.Calls.{guarded, receive-refused, receive-handled, code-read}
 use Rattle.gateway.proofs.steps.receive.Statement.{statement}
 use Rattle.gateway.proofs.steps.receive.Tie as tie
 
-call-refusal-requires : tie.Need-call-refusal-requires
-call-refusal-requires c κs = search needs
+calling-requires : tie.Need-calling-requires
+calling-requires c κs = search needs
 
 refused-requires : tie.Need-refused-requires
 refused-requires c κs = search needs
@@ -15,7 +15,7 @@ returns : tie.Need-returns
 returns c = c .refused .ensures (c .before .before .before .before .before .before .args .content .now)
     (c .before .before .before .before .before .before .args .reply .now)
     ∙ receive-refused _ (c .before .before .before .before .before .before .args .content .now)
-    (c .before .before .before .before .before .before .args .reply .now) _ (c .before .before .call-refusal .ensures) _ _ _ (c .before .if1 .taken)
+    (c .before .before .before .before .before .before .args .reply .now) _ (c .before .before .calling .ensures) _ _ _ (c .before .if1 .taken)
 
 read-to-gateway-requires : tie.Need-read-to-gateway-requires
 read-to-gateway-requires c κs = search needs
@@ -31,23 +31,23 @@ byte-at-requires c κs = search needs
 
 handle-requires : tie.Need-handle-requires
 handle-requires c κs = (
-  code-read _ _ (c .before .before .before .before .before .before .before .before .before .before .args .message .now)
-      (c .before .before .before .before .read-to-gateway .result) _ _ (c .before .before .before .before .read-to-gateway .ensures)
-      (c .before .byte-at .ensures),
   guarded _ (c .before .before .before .before .before .before .before .before .before .before .args .content .now)
       (c .before .before .before .before .before .before .before .before .before .before .args .reply .now) _
-      (c .before .before .before .before .before .before .call-refusal .ensures) (c .before .before .before .before .before .if1 .left),
+      (c .before .before .before .before .before .before .calling .ensures) (c .before .before .before .before .before .if1 .left),
+  code-told _ _ (c .before .before .before .before .before .before .before .before .before .before .args .message .now)
+      (c .before .before .before .before .read-to-gateway .result) _ _ _ (c .before .before .before .before .read-to-gateway .ensures)
+      (c .before .byte-at .ensures)
+      (c .before .before .before .version-place .ensures) (c .before .before .version-at .ensures),
 )
 
 same-length : tie.Need-same-length
 same-length c = search needs
 
 returns-2 : tie.Need-returns-2
-returns-2 c =
-    c .before .before .handle .ensures
+returns-2 c = c .before .before .handle .ensures
     ∙ receive-handled _ (c .before .before .before .before .before .before .before .before .before .before .before .before .before .args .content
     .now) (c .before .before .before .before .before .before .before .before .before .before .before .before .before .args .reply .now) _
-    (c .before .before .before .before .before .before .before .before .before .call-refusal .ensures) _ _
+    (c .before .before .before .before .before .before .before .before .before .calling .ensures) _ _
     (c .before .before .before .before .before .before .before .before .before .before .before .before .before .args .message .now)
     (c .before .before .before .before .before .before .before .read-to-gateway .result) _ _
     (c .before .before .before .before .before .before .before .before .if1 .left)
@@ -58,7 +58,7 @@ pub receive-spec : {M : Type 1} → statement M
 receive-spec =
     tie.close
     (tie.spec
-    call-refusal-requires
+    calling-requires
     refused-requires
     returns
     read-to-gateway-requires
