@@ -141,7 +141,7 @@ module _ (g : Gateway) (content : List ℕ) where
 
 -- ---- what a message leaves as it was
 
-turned-keeps : (g : Gateway) (content : List ℕ) (heard : Reading GatewayMessage) (h : Gateway) → Turns g content heard h
+pub turned-keeps : (g : Gateway) (content : List ℕ) (heard : Reading GatewayMessage) (h : Gateway) → Turns g content heard h
     → (h .fields ≡ g .fields) × (h .length ≡ g .length)
 turned-keeps g content heard h (stays e) = rw e (refl, refl)
 turned-keeps g content heard h (offers p e) = rw e (refl, refl)

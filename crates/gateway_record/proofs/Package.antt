@@ -96,7 +96,7 @@ starts version size content checked =
 -- the fields that such a start announces
 pub started-fields : (version : List ℕ) (size : ℕ) (content : List ℕ) (code : ℕ) {s : Started} → StartedOn version size content code s
     → s .gateway .fields ≡ record { version = version; size = size; total = totalOf (length content) size; code = code }
-started-fields version size content code s = rw (s .made, pick-yes (lengthOk (length content) size) _ 0 (s .length-ok))
+started-fields version size content code s = rw (s .made, pick-yes {A = ℕ} (lengthOk (length content) size) (totalOf (length content) size) 0 (s .length-ok))
 
 -- the total of a record that keeps the rules
 pub good-total : (g : Gateway) → recordOk g ≡ true → g .fields .total ≡ totalOf (g .length) (g .fields .size)

@@ -13,7 +13,7 @@ use Rattle.upgrade.specs.Clean.{UntilSilent, silent, spoken, ending}
 use Rattle.upgrade.proofs.CleanSetting.{Setting, total, gatewayIn, endIn, loadingAt, some, total-some}
 use Rattle.upgrade.proofs.CleanCalls.{At, Spoke, asksDevice, asksGateway}
 use Rattle.upgrade.proofs.CleanLoad.{Front, front-none, front-more}
-use Rattle.upgrade.proofs.CleanSteps.{announced, fetched-one, fetched-last, quiet, reported, executed, finished, succeeded}
+use Rattle.upgrade.proofs.CleanSteps.{announced, fetched-one, fetched-last, quiet, reported, executed, ended, succeeded}
 
 -- asking until there is nothing to send ends in one way at most
 pub one-silence : (e : Ends) (affirmed : e .Fact) (deviceReply gatewayReply : Both e → List ℕ) {w v u : Both e}
@@ -68,7 +68,7 @@ module _ (s : Setting) where
 
     pub ends : (v : World) → Fetched v → ending (records (s .content)) true (s .deviceReply) (s .gatewayReply) v .gateway ≡ gatewayIn s gateway.ended
     ends v f =
-        succeeded s _ _ _ _ _ (finished s _ _ _ _ _ (executed s _ _ _ _ v (f .here))) .leads .gateway-is
+        succeeded s _ _ _ _ _ (ended s _ _ _ _ _ (executed s _ _ _ _ v (f .here))) .leads .gateway-is
 
     -- whenever the device is silent after the announcement, the rest of the run ends the gateway with success
     pub succeeds : (v : World) → Until (asksGateway s w) v → ending (records (s .content)) true (s .deviceReply) (s .gatewayReply) v .gateway

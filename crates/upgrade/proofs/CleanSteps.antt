@@ -22,6 +22,7 @@ use Rattle.device.specs.Rules as device-rules
 use Rattle.device.proofs.Standing.{standing}
 use Rattle.device.proofs.Sound.{sound-record}
 use Rattle.gateway_record.specs.Record as gateway
+use Rattle.gateway_decisions.specs.Decisions as decisions
 use Rattle.gateway.specs.Rules as gateway-rules
 use Rattle.gateway_record.proofs.Package.{stretch-fits}
 use Rattle.upgrade.specs.Calls.{finished, atDevice, next}
@@ -78,7 +79,7 @@ module _ (s : Setting) where
 
     served : (reply : List ℕ) → gatewayTakes s gateway.serve (fragmentRequest (s .version) k) reply
         ≡ gateway-rules.replied (gatewayIn s gateway.serve) (s .content) reply (gatewayIn s gateway.serve) (fragment 0x00 k bytes)
-    unfolding gateway-rules.handle gateway-rules.onFragmentRequest gateway-rules.fragmentReply gateway-rules.serving pick
+    unfolding gateway-rules.handle gateway-rules.onFragmentRequest gateway-rules.fragmentReply decisions.fragmentResult decisions.serving pick
     served reply = rw (same-refl (s .version), lt-ltb k (total s) more)
 
     ranged : 1 ≤ length bytes
@@ -153,18 +154,18 @@ module _ (s : Setting) where
         gateway-exchange s w (endIn s device.acked stored last image map) gateway.run here refl execute (executeReply 0x00) refl refl (λ _. refl)
         (aired-message toGateway (executeReply 0x00)) refl (λ _. refl)
 
-    pub finished : At w (endIn s device.installing stored last image map) (gatewayIn s gateway.run)
+    pub ended : At w (endIn s device.installing stored last image map) (gatewayIn s gateway.run)
         → At (next (records (s .content)) w (atDevice (finished 0x00))) (updatedIn s device.reporting stored last image map) (gatewayIn s gateway.run)
     unfolding next deviceDoes device-rules.installFinishedOf refusal installCode oneOf pick
-    finished here =
+    ended here =
         let e : DeviceEnd = endIn s device.installing stored last image map in
         let good : device.recordOk (e .device) ≡ true = sound-record (standing any) (e .device) image map (here .sound) in
         rw (here .device-is, good) record { device-is = refl; gateway-is = here .gateway-is; sound = rw good at (call-fine e (finished 0x00) (here .sound)) }
 
     pub succeeded : At w (updatedIn s device.reporting stored last image map) (gatewayIn s gateway.run)
         → Spoke s w (updatedIn s device.idle stored last image map) (gatewayIn s gateway.ended)
-    unfolding device-rules.wanted device-rules.handle device-rules.onResultReply gateway-rules.handle gateway-rules.onResultReport deviceValid
-        gatewayValid installCode oneOf pick
+    unfolding device-rules.wanted device-rules.handle device-rules.onResultReply gateway-rules.handle gateway-rules.onResultReport
+        decisions.installEnding deviceValid gatewayValid installCode oneOf pick
     succeeded here =
         device-exchange s w (updatedIn s device.reporting stored last image map) gateway.run here refl (resultReport 0x00 (s .version)) (resultReply 0x00)
         refl (s .version-good) (λ _. rw (same-refl (s .version))) refl (λ _. refl)

@@ -78,7 +78,7 @@ unfolding deviceDoes
 call-kept e (image, given supported pcp condition message reply) k =
     kept-given (e .device) image (e .map) reply supported pcp condition message k
 call-kept e (image, asked reply) k = k
-call-kept e (image, installed code) k = kept-installed (e .device) (e .map) code k
+call-kept e (image, finished code) k = kept-installed (e .device) (e .map) code k
 
 run-kept : (calls : List (List ℕ × DeviceCall Bool)) (e : DeviceEnd) → KeptIn e → KeptIn (after (lentNext deviceRecords) e calls)
 run-kept [] e k = k

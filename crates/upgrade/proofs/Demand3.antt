@@ -25,6 +25,7 @@ use Rattle.gateway_record.specs.declared.Gateway.{Gateway}
 use Rattle.gateway_record.specs.Record as gateway
 use Rattle.message.specs.Limits.{sizeOk}
 use Rattle.device_record.proofs.Ranges.{size-range}
+use Rattle.gateway.proofs.Views.{turned-keeps}
 use Rattle.gateway_record.proofs.Package.{starts, started-fields, total-covers, below-total, total-some, fragment-is}
 use Rattle.upgrade.specs.Fold.{after, Allowed}
 use Rattle.upgrade.specs.Calls.{DeviceCall, given, asked, finished, GatewayCall, Call, atDevice, atGateway, next, May}
@@ -35,7 +36,7 @@ use Rattle.upgrade.proofs.Folds.{after-append, allowed-front, allowed-r
 use Rattle.upgrade.proofs.Air.{air-none}
 use Rattle.upgrade.proofs.Run.{Plan, Stretch, Run, untaken, taken, run-later}
 use Rattle.upgrade.proofs.DeviceCalls.{StillAt, DoesAt, holding-busy, inputOf, outIn, call-does, next-is, says-is}
-use Rattle.upgrade.proofs.GatewaySteps.{heardIn, gateway-turns, offer-kept}
+use Rattle.upgrade.proofs.GatewaySteps.{heardIn, gateway-turns}
 use Rattle.upgrade.proofs.DeviceSteps.{not-success}
 use Rattle.upgrade.proofs.Life.{Among, Lived, lived, lived-fresh}
 use Rattle.upgrade.proofs.History.{ExecutedIn, executed-later, executed-now, installed-later, installed-now}
@@ -105,7 +106,7 @@ offer-then : (content : List ℕ) (cs : List (GatewayCall Bool)) (g : Gateway)
     → after (gatewayNext content) g cs .fields ≡ g .fields
 offer-then content [] g = refl
 offer-then content (c ∷ cs) g =
-    offer-then content cs (gatewayNext content g c) ∙ offer-kept content g (gatewayNext content g c) (heardIn c) (gateway-turns content g c)
+    offer-then content cs (gatewayNext content g c) ∙ turned-keeps g content (heardIn c) _ (gateway-turns content g c) .0
 
 -- ---- the run
 
@@ -187,7 +188,7 @@ module _ (b : Before) (ready : Ready b) where
   keeps calls (atGateway c) i m =
       let g : Gateway = worldAfter b calls .gateway in
       record {
-        offer = offer-kept (b .content) g _ (heardIn c) (gateway-turns (b .content) g c) ∙ i .offer;
+        offer = turned-keeps g (b .content) (heardIn c) _ (gateway-turns (b .content) g c) .0 ∙ i .offer;
         run = run-later plan _ (executed-later (records (b .content)) (start b) calls (atGateway c))
             (installed-later (records (b .content)) (start b) calls (atGateway c))
             (gateway-keeps plan (worldAfter b calls) c (i .offer) m (i .run));

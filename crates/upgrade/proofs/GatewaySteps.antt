@@ -40,15 +40,6 @@ module _ (content : List ℕ) (g : Gateway) where
   gateway-said (GatewayCall.given supported pcp message reply) = on-air reply _ _ (received g content reply supported pcp message .said)
   gateway-said (GatewayCall.asked reply) = on-air reply _ _ (next-said g content reply)
 
-  -- the four fields stay
-  pub offer-kept : (h : Gateway) (heard : Reading GatewayMessage) → Turns g content heard h → h .fields ≡ g .fields
-  offer-kept h heard (stays e) = ap e .fields
-  offer-kept h heard (offers p e) = ap e .fields
-  offer-kept h heard (serves p a e) = ap e .fields
-  offer-kept h heard (runs p e) = ap e .fields
-  offer-kept h heard (fails n z e) = ap e .fields
-  offer-kept h heard (succeeds p a e) = ap e .fields
-
 -- ---- before the announcement is taken up
 
 not-serving : (g : Gateway) → Offering g → (g .phase ≡ gateway.serve) ⊎ (g .phase ≡ gateway.run) → ⊥
