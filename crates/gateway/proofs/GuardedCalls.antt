@@ -32,8 +32,8 @@ module _ (g : Gateway) (content reply : List ℕ) (n : ℕ) (tested : n ≡ call
       let (d, _) = passed 13 (eqb (length content) (g .length)) _ q in
       record { room = leb-true _ _ a; sound = b; whole = eqb-true _ _ d }
 
-  pub receive-refused : (supported pcp : Bool) (message : List ℕ) →
-      (n ≡ 0 → ⊥) → refuse g content reply n ≡ receiveOf g content reply supported pcp message
+  pub receive-refused : (supported pcp : Bool) (message : List ℕ) → (n ≡ 0 → ⊥)
+      → refuse g content reply n ≡ receiveOf g content reply supported pcp message
   unfolding receiveOf
   receive-refused supported pcp message h = rw (← tested) (sym (pick-no (eqb n 0) _ _ (ne-eqb n 0 h)))
 
@@ -49,10 +49,10 @@ module _ (g : Gateway) (content reply : List ℕ) (n : ℕ) (tested : n ≡ call
   unfolding nextMessageOf said
   next-refused h = rw (← tested, pick-no (eqb n 0) (wanted g) (refused n) (ne-eqb n 0 h))
 
-  pub next-said : (m : Reading DeviceMessage) → n ≡ 0 → m ≡ wanted g → g .fields .code < 65536 → spoken toDevice m reply ≡ nextMessageOf g content
-      reply
+  pub next-spoken : (m : Reading DeviceMessage) → n ≡ 0 → m ≡ wanted g → g .fields .code < 65536
+      → spoken toDevice m reply ≡ nextMessageOf g content reply
   unfolding nextMessageOf
-  next-said m z e w =
+  next-spoken m z e w =
       let k = guarded z in
       rw (← tested, e, pick-yes (eqb n 0) (wanted g) (refused n) (eq-eqb n 0 z))
       (spoken-said toDevice device-round-trip (wanted g) reply (k .room) (wanted-allowed g (k .sound) w))

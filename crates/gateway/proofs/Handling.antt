@@ -44,8 +44,8 @@ module _ (g : Gateway) (content reply : List ℕ) where
 
     -- ---- 22 and 24: a reply in every phase
 
-    pub download-running : (g .phase ≡ serve → ⊥) → g .phase ≡ run → replied g content reply g
-        (downloadReply 0x00) ≡ onDownloadReport g content reply result
+    pub download-running : (g .phase ≡ serve → ⊥) → g .phase ≡ run
+        → replied g content reply g (downloadReply 0x00) ≡ onDownloadReport g content reply result
     unfolding onDownloadReport
     download-running n e = sym (pick-no _ _ _ (ne-eqb _ _ n) ∙ pick-yes _ _ _ (eq-eqb _ _ e))
 

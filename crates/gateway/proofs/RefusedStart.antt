@@ -24,8 +24,8 @@ module _ (g : Gateway) (broken : recordOk g ≡ false) where
             by-refusal (λ (a : After). (a .number ≢ 0) × (a ≡ refuse g content reply (a .number))) _ _ _ broken
             (λ e. guarded g content reply _ refl e .sound) (λ n. (n, refl));
         next-message = λ content reply.
-            by-refusal (λ (r : Reading DeviceMessage). let s : Sent = said toDevice r reply in (s .number ≢ 0) × (s ≡ unsent
-            (s .number) reply)) _ _ _ broken
+            by-refusal
+            (λ (r : Reading DeviceMessage). let s : Sent = said toDevice r reply in (s .number ≢ 0) × (s ≡ unsent (s .number) reply)) _ _ _ broken
             (λ e. guarded g content reply _ refl e .sound) (λ n. (n, refl));
       }
 

@@ -65,8 +65,8 @@ module _ (g : Gateway) (content : List ℕ) where
       record { phase = phase; below = below; stretch = pick-yes _ _ _ (eq-eqb _ _ z) }
 
   -- a request in Serve or Run, with the target's version and an index below the total, is answered with its fragment
-  pub serves-fragment : (version : List ℕ) (index : ℕ) → serving (g .phase) ≡ true → same version
-      (g .fields .version) ≡ true → index < g .fields .total
+  pub serves-fragment : (version : List ℕ) (index : ℕ) → serving (g .phase) ≡ true → same version (g .fields .version) ≡ true
+      → index < g .fields .total
       → fragmentReply g content version index ≡ fragment 0x00 index (fragmentOf content (g .fields .size) index)
   unfolding fragmentReply pick
   serves-fragment version index s v l = rw (given (g .phase) (g .fields) version index s v l)

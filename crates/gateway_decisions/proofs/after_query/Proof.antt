@@ -1,8 +1,8 @@
-use Rattle.gateway_decisions.specs.Decisions.{afterQuery}
-use Rattle.basis.proofs.Choosing.{pick-yes, pick-no}
-use mathlib.Core.Path.{sym, _∙_}
 -- `gateway_decisions::after_query` meets its contract. Assumes nothing.
 use borrow.Author.Needs.{needs}
+use mathlib.Core.Path.{sym, _∙_}
+use Rattle.basis.proofs.Choosing.{pick-yes, pick-no}
+use Rattle.gateway_decisions.specs.Decisions.{afterQuery}
 use Rattle.gateway_decisions.proofs.after_query.Statement.{statement}
 use Rattle.gateway_decisions.proofs.after_query.Tie as tie
 

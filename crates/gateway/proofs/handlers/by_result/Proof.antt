@@ -1,7 +1,7 @@
-use Rattle.basis.proofs.Choosing.{pick-yes, pick-no}
-use mathlib.Core.Path.{sym}
-use borrow.Author.Tests.{eq-eqb, ne-eqb}
 -- `gateway::handlers::by_result` meets its contract. Assumes nothing.
+use borrow.Author.Tests.{eq-eqb, ne-eqb}
+use mathlib.Core.Path.{sym}
+use Rattle.basis.proofs.Choosing.{pick-yes, pick-no}
 use Rattle.gateway.proofs.handlers.by_result.Statement.{statement}
 use Rattle.gateway.proofs.handlers.by_result.Tie as tie
 

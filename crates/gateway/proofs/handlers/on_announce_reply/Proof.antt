@@ -1,8 +1,8 @@
-use Rattle.gateway.proofs.Handling.{announce-elsewhere, announce-here}
-use mathlib.Core.Path.{_∙_}
-use Rattle.gateway.proofs.Readings.{unexpected, unrefused, leaves}
 -- `gateway::handlers::on_announce_reply` meets its contract: another reading, another phase, and the rule. Assumes nothing.
 use borrow.Author.Needs.{needs}
+use mathlib.Core.Path.{_∙_}
+use Rattle.gateway.proofs.Handling.{announce-elsewhere, announce-here}
+use Rattle.gateway.proofs.Readings.{unexpected, unrefused, leaves}
 use Rattle.gateway.proofs.handlers.on_announce_reply.Statement.{statement}
 use Rattle.gateway.proofs.handlers.on_announce_reply.Tie as tie
 

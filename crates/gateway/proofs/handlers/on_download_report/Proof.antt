@@ -1,10 +1,10 @@
-use Rattle.gateway.proofs.Handling.{download-served, download-running, download-elsewhere}
-use Rattle.gateway.proofs.Readings.{unexpected, unrefused, leaves}
-use Rattle.message.specs.Messages.{deviceValid}
-use Rattle.basis.specs.Choice.{oneOf}
-use mathlib.Core.Path.{_∙_, refl}
 -- `gateway::handlers::on_download_report` meets its contract: another reading, and the rule by the phase. Assumes nothing.
 use borrow.Author.Needs.{needs}
+use mathlib.Core.Path.{_∙_, refl}
+use Rattle.basis.specs.Choice.{oneOf}
+use Rattle.message.specs.Messages.{deviceValid}
+use Rattle.gateway.proofs.Handling.{download-served, download-running, download-elsewhere}
+use Rattle.gateway.proofs.Readings.{unexpected, unrefused, leaves}
 use Rattle.gateway.proofs.handlers.on_download_report.Statement.{statement}
 use Rattle.gateway.proofs.handlers.on_download_report.Tie as tie
 

@@ -1,8 +1,8 @@
-use Rattle.gateway.proofs.Handling.{execute-elsewhere, execute-here}
-use mathlib.Core.Path.{_∙_}
-use Rattle.gateway.proofs.Readings.{unexpected, unrefused, leaves}
 -- `gateway::handlers::on_execute_reply` meets its contract: another reading, another phase, and the rule. Assumes nothing.
 use borrow.Author.Needs.{needs}
+use mathlib.Core.Path.{_∙_}
+use Rattle.gateway.proofs.Handling.{execute-elsewhere, execute-here}
+use Rattle.gateway.proofs.Readings.{unexpected, unrefused, leaves}
 use Rattle.gateway.proofs.handlers.on_execute_reply.Statement.{statement}
 use Rattle.gateway.proofs.handlers.on_execute_reply.Tie as tie
 

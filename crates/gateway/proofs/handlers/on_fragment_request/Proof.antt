@@ -1,9 +1,9 @@
-use Rattle.gateway.proofs.Saying.{denied-allowed, given-allowed}
-use Rattle.gateway.proofs.Handling.{fragment-none, fragment-some}
-use Rattle.gateway.proofs.Readings.{unexpected, unrefused, leaves}
-use mathlib.Core.Path.{_∙_, refl}
 -- `gateway::handlers::on_fragment_request` meets its contract: another reading, a result alone, or the part that `fragment` gave. Assumes nothing.
 use borrow.Author.Needs.{needs}
+use mathlib.Core.Path.{_∙_, refl}
+use Rattle.gateway.proofs.Handling.{fragment-none, fragment-some}
+use Rattle.gateway.proofs.Readings.{unexpected, unrefused, leaves}
+use Rattle.gateway.proofs.Saying.{denied-allowed, given-allowed}
 use Rattle.gateway.proofs.handlers.on_fragment_request.Statement.{statement}
 use Rattle.gateway.proofs.handlers.on_fragment_request.Tie as tie
 

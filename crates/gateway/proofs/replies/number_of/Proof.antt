@@ -1,7 +1,7 @@
-use types.Run.{miss}
-use mathlib.Core.List.{_∷_, []}
 -- `gateway::replies::number_of` meets its contract. Assumes nothing.
 use borrow.Author.Needs.{needs}
+use mathlib.Core.List.{_∷_, []}
+use types.Run.{miss}
 use Rattle.gateway.proofs.replies.number_of.Statement.{statement}
 use Rattle.gateway.proofs.replies.number_of.Tie as tie
 

@@ -1,8 +1,8 @@
-use Rattle.gateway.proofs.Readings.{leads, last-left}
-use Rattle.gateway.specs.Rules.{handle}
-use native.Mathlib.Omega.{arith}
 -- `gateway::steps::handle` meets its contract: a handler for each code, whose promises are the rule. Assumes nothing.
 use borrow.Author.Needs.{needs}
+use native.Mathlib.Omega.{arith}
+use Rattle.gateway.specs.Rules.{handle}
+use Rattle.gateway.proofs.Readings.{leads, last-left}
 use Rattle.gateway.proofs.steps.handle.Statement.{statement}
 use Rattle.gateway.proofs.steps.handle.Tie as tie
 

@@ -1,7 +1,7 @@
-use Rattle.gateway.proofs.GuardedCalls.{next-refused, next-said}
-use mathlib.Core.Path.{_∙_}
 -- `gateway::next_message` meets its contract: the guard's number, or what is wanted, which is allowed. Assumes nothing.
 use borrow.Author.Needs.{needs}
+use mathlib.Core.Path.{_∙_}
+use Rattle.gateway.proofs.GuardedCalls.{next-refused, next-spoken}
 use Rattle.gateway.proofs.steps.next_message.Statement.{statement}
 use Rattle.gateway.proofs.steps.next_message.Tie as tie
 
@@ -25,7 +25,7 @@ same-length : tie.Need-same-length
 same-length c = search needs
 
 returns-2 : tie.Need-returns-2
-returns-2 c = c .before .before .say-to-device .ensures ∙ next-said _
+returns-2 c = c .before .before .say-to-device .ensures ∙ next-spoken _
     (c .before .before .before .before .before .before .before .before .before .before .before .before .args .content .now)
     (c .before .before .before .before .before .before .before .before .before .before .before .before .args .reply .now) _
     (c .before .before .before .before .before .before .before .before .before .calling .ensures) _

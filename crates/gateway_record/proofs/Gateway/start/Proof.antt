@@ -1,6 +1,6 @@
-use Rattle.gateway_record.proofs.Starts.{start-refused, start-made}
 -- `gateway_record::Gateway::start` meets its contract: by the number that its tests gave. Assumes nothing.
 use borrow.Author.Needs.{needs}
+use Rattle.gateway_record.proofs.Starts.{start-refused, start-made}
 use Rattle.gateway_record.proofs.Gateway.start.Statement.{statement}
 use Rattle.gateway_record.proofs.Gateway.start.Tie as tie
 

@@ -1,7 +1,7 @@
-use Rattle.basis.proofs.Choosing.{pick-yes, pick-no}
-use mathlib.Core.Path.{sym, _∙_}
 -- `gateway_record::fragments::code_of` meets its contract. Assumes nothing.
 use borrow.Author.Needs.{needs}
+use mathlib.Core.Path.{sym, _∙_}
+use Rattle.basis.proofs.Choosing.{pick-yes, pick-no}
 use Rattle.gateway_record.proofs.fragments.code_of.Statement.{statement}
 use Rattle.gateway_record.proofs.fragments.code_of.Tie as tie
 

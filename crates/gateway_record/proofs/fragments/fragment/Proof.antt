@@ -1,8 +1,8 @@
-use Rattle.basis.specs.Stretch.{Stretch}
-use mathlib.Core.Path.{subst}
-use Prim.Native.Nat.{ℕ}
 -- `gateway_record::fragment` meets its contract: the part of `basis::part_of`. Assumes nothing.
 use borrow.Author.Needs.{needs}
+use Prim.Native.Nat.{ℕ}
+use mathlib.Core.Path.{subst}
+use Rattle.basis.specs.Stretch.{Stretch}
 use Rattle.gateway_record.proofs.fragments.fragment.Statement.{statement}
 use Rattle.gateway_record.proofs.fragments.fragment.Tie as tie
 

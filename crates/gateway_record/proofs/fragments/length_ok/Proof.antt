@@ -1,6 +1,6 @@
-use Rattle.gateway_record.specs.Record.{lengthOk}
 -- `gateway_record::fragments::length_ok` meets its contract. Assumes nothing.
 use borrow.Author.Needs.{needs}
+use Rattle.gateway_record.specs.Record.{lengthOk}
 use Rattle.gateway_record.proofs.fragments.length_ok.Statement.{statement}
 use Rattle.gateway_record.proofs.fragments.length_ok.Tie as tie
 

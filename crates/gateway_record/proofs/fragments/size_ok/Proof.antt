@@ -1,6 +1,6 @@
-use Rattle.message.specs.Limits.{sizeOk}
-use mathlib.Core.Path.{refl}
 -- `gateway_record::fragments::size_ok` meets its contract. Assumes nothing.
+use mathlib.Core.Path.{refl}
+use Rattle.message.specs.Limits.{sizeOk}
 use Rattle.gateway_record.proofs.fragments.size_ok.Statement.{statement}
 use Rattle.gateway_record.proofs.fragments.size_ok.Tie as tie
 

@@ -1,11 +1,11 @@
-use Rattle.gateway_record.proofs.Package.{length-range, total-most}
-use Rattle.gateway_record.specs.Record.{totalOf}
-use Rattle.basis.proofs.Choosing.{pick-yes, pick-no}
-use borrow.Author.Tests.{not-true, not-false}
-use native.Mathlib.Omega.{arith}
-use mathlib.Core.Path.{sym, _∙_}
 -- `gateway_record::fragments::total_of` meets its contract: what 19 does not refuse has a size, and a total that fits. Assumes nothing.
 use borrow.Author.Needs.{needs}
+use borrow.Author.Tests.{not-true, not-false}
+use mathlib.Core.Path.{sym, _∙_}
+use native.Mathlib.Omega.{arith}
+use Rattle.basis.proofs.Choosing.{pick-yes, pick-no}
+use Rattle.gateway_record.specs.Record.{totalOf}
+use Rattle.gateway_record.proofs.Package.{length-range, total-most}
 use Rattle.gateway_record.proofs.fragments.total_of.Statement.{statement}
 use Rattle.gateway_record.proofs.fragments.total_of.Tie as tie
 

@@ -1,6 +1,6 @@
-use Rattle.basis.specs.Choice.{refusal}
 -- `gateway_record::guards::starting` meets its contract. Assumes nothing.
 use borrow.Author.Needs.{needs}
+use Rattle.basis.specs.Choice.{refusal}
 use Rattle.gateway_record.proofs.guards.starting.Statement.{statement}
 use Rattle.gateway_record.proofs.guards.starting.Tie as tie
 

@@ -1,8 +1,7 @@
-use Rattle.gateway_record.specs.Record.{totalOf, lengthOk}
-use Rattle.gateway_record.proofs.Records.{total-tested}
-use Rattle.gateway_record.specs.Record.{recordOk}
 -- `gateway_record::record::record_ok` meets its contract: where the length is refused, the total does not count. Assumes nothing.
 use borrow.Author.Needs.{needs}
+use Rattle.gateway_record.specs.Record.{totalOf, lengthOk, recordOk}
+use Rattle.gateway_record.proofs.Records.{total-tested}
 use Rattle.gateway_record.proofs.record.record_ok.Statement.{statement}
 use Rattle.gateway_record.proofs.record.record_ok.Tie as tie
 
