@@ -92,7 +92,7 @@ module _ {F K : Type 0} (of : F → K) where
   abbrev pub deviceCallAs : DeviceCall F → DeviceCall K
   deviceCallAs (given supported pcp condition message reply) = given (of supported) (of pcp) condition message reply
   deviceCallAs (asked reply) = asked reply
-  deviceCallAs (finished code) = installed code
+  deviceCallAs (finished code) = finished code
 
   abbrev pub gatewayCallAs : GatewayCall F → GatewayCall K
   gatewayCallAs (GatewayCall.given supported pcp message reply) = GatewayCall.given (of supported) (of pcp) message reply

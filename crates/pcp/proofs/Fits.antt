@@ -90,13 +90,8 @@ module _ (g : Gateway) (content reply : List ℕ) where
       → length (bytesOf toDevice (gateway.fragmentReply g content version index)) ≤ gatewayRoom
   unfolding gateway.fragmentReply deviceData fragmentOf
   fragment-fits version index h =
-      by-cases P
-      (λ _. by-cases P (λ _. spoken-fits (fragment 0x00 index (fragmentOf content (g .fields .size) index)) (simp length-take (omega arith)))
-      (λ _. spoken-fits (fragment 0x81 index []) (omega arith)))
-      (λ _. spoken-fits (fragment 0x80 index []) (omega arith))
-    where
-      P : DeviceMessage → Type 0
-      P m = length (bytesOf toDevice m) ≤ gatewayRoom
+      spoken-fits (gateway.fragmentReply g content version index)
+      (by-cases (λ (bytes : List ℕ). length (deviceData (fragment 0x00 index bytes)) ≤ 3 + sizeMax) (λ _. simp length-take (omega arith)) (λ _. omega arith))
 
   handled-fits : g .fields .size ≤ sizeMax → (r : Reading GatewayMessage) → Fits (gateway.handle g content reply r)
   unfolding Fits gateway.handle gateway.onQueryReply gateway.onAnnounceReply gateway.onFragmentRequest gateway.onDownloadReport gateway.onExecuteReply
