@@ -1,3 +1,3 @@
 pub mod Steps
 pub mod Records
-pub mod Held
+pub mod Walks

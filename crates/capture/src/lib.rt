@@ -6,7 +6,7 @@ use basis::number::BAD_MARK;
 use basis::number::CUT_SHORT;
 ghost use mathlib.Core.Path.{_≡_};
 ghost use Rattle.capture.specs.Capture.{wrongMark, itemAt, walkAt};
-ghost use Rattle.capture.specs.Coded.{itemOf, told};
+ghost use Rattle.capture.specs.Answers.{itemOf, told};
 ghost use Rattle.capture.specs.Reader.{readerAt};
 
 // The mark of a record toward the device, its two bytes as a WORD.

@@ -12,7 +12,7 @@ use Rattle.message.specs.declared.ToGateway
 use Rattle.message.specs.declared.ToGateway.{ToGateway}
 use Rattle.codec.specs.declared.parts.Parts.{Parts}
 use Rattle.message.specs.Messages.{deviceCode, deviceData, gatewayCode, gatewayData, Table, toDevice, toGateway, Reading}
-use Rattle.message.specs.Coded.{deviceMessage, gatewayMessage}
+use Rattle.message.specs.Enums.{deviceMessage, gatewayMessage}
 use Rattle.codec.specs.Parts.{dataOf, bare, withResult, withVersion, withWords, withData, lengthOf, assembled, Within, Laid}
 
 -- the whole of a list of n

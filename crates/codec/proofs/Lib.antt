@@ -2,7 +2,7 @@ pub mod Frames
 pub mod RoundTrip
 pub mod Published
 pub mod Demand2
-pub mod Heard
+pub mod WrittenRead
 pub mod Places
 pub mod Laying
 pub mod Reading

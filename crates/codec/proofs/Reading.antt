@@ -16,7 +16,7 @@ use Rattle.basis.proofs.Lists.{part-rest, same-part, word-high, word-low}
 use Rattle.message.specs.Recognition.{recognition}
 use Rattle.message.specs.Messages.{DeviceMessage, deviceData, deviceFields, GatewayMessage, gatewayData, gatewayFields, Table, Reading, found, refused}
 use Rattle.codec.specs.Codec.{readOf}
-use Rattle.message.specs.Coded.{validOf}
+use Rattle.message.specs.Enums.{validOf}
 use Rattle.codec.specs.Parts.{dataOf}
 use Rattle.codec.proofs.Frames.{recognised}
 

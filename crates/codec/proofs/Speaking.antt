@@ -14,9 +14,9 @@ use Rattle.message.specs.declared.ToGateway.{ToGateway}
 use Rattle.message.proofs.ToDevice as to-device
 use Rattle.message.proofs.ToGateway as to-gateway
 use Rattle.message.specs.Messages.{Table, Reading, found, refused, toDevice, toGateway}
-use Rattle.message.specs.Coded.{deviceMessage, gatewayMessage}
+use Rattle.message.specs.Enums.{deviceMessage, gatewayMessage}
 use Rattle.codec.specs.Codec.{Sent, readOf, writeOf, said, spoken}
-use Rattle.codec.specs.Coded.{Sayable, OfCode}
+use Rattle.codec.specs.Answers.{Sayable, OfCode}
 use Rattle.codec.specs.Demand2.{RoundTrips}
 
 module _ (t : Table) (trips : RoundTrips t) where

@@ -20,7 +20,7 @@ use Rattle.message.specs.Version.{goodVersion}
 use Rattle.message.specs.Messages.{DeviceMessage, deviceData, deviceValid, fragmentOk, installCode, GatewayMessage, gatewayData, gatewayValid, Table, toDevice}
 use Rattle.message.specs.Messages.{toGateway, Reading, found, refused}
 use Rattle.codec.specs.Codec.{sealed, frame, bytesOf, Sent, writeOf}
-use Rattle.message.specs.Coded.{validOf}
+use Rattle.message.specs.Enums.{validOf}
 use Rattle.codec.specs.Parts.{codeOf, dataOf, lengthOf, assembled, Within, Laid, Framed}
 use Rattle.message.proofs.Allowed.{text-length, fragment-length}
 use Rattle.codec.proofs.Laying.{length-assembled, length-laid}

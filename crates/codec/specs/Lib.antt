@@ -1,5 +1,5 @@
 pub mod Codec
-pub mod Coded
+pub mod Answers
 pub mod Parts
 pub mod Published
 pub mod Demand2

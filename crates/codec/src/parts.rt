@@ -8,7 +8,7 @@ ghost use Prim.Native.Nat.{_+_, _≤_, _<_};
 ghost use lib.ListN.{length};
 ghost use Rattle.basis.specs.Bytes.{wordBytes};
 ghost use Rattle.message.specs.Messages.{toDevice, toGateway};
-ghost use Rattle.message.specs.Coded.{deviceMessage, gatewayMessage};
+ghost use Rattle.message.specs.Enums.{deviceMessage, gatewayMessage};
 ghost use Rattle.codec.specs.Parts.{bare, withResult, withVersion, withWords, withData, lengthOf, Within, Laid};
 
 // The result and the WORDs themselves, and of each part how many bytes there are; the version text

@@ -11,8 +11,8 @@ ghost use lib.ListN.{drop, getD};
 ghost use Rattle.basis.specs.Bytes.{part};
 ghost use Rattle.message.specs.Messages.{deviceFields, gatewayFields, toDevice, toGateway, found};
 ghost use Rattle.codec.specs.Codec.{readOf};
-ghost use Rattle.message.specs.Coded.{deviceMessage, gatewayMessage};
-ghost use Rattle.codec.specs.Coded.{versionPlace};
+ghost use Rattle.message.specs.Enums.{deviceMessage, gatewayMessage};
+ghost use Rattle.codec.specs.Answers.{versionPlace};
 
 // Where the data of a message begins, what stands behind a result or a version text there, and the
 // data of a fragment behind its result and index.

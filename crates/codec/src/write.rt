@@ -15,8 +15,8 @@ ghost use lib.ListN.{length, take};
 ghost use Rattle.basis.specs.Bytes.{wordBytes, over, patched};
 ghost use Rattle.message.specs.Messages.{toDevice, toGateway};
 ghost use Rattle.codec.specs.Codec.{sealed, frame, writeOf, spoken};
-ghost use Rattle.message.specs.Coded.{deviceMessage, gatewayMessage};
-ghost use Rattle.codec.specs.Coded.{sent};
+ghost use Rattle.message.specs.Enums.{deviceMessage, gatewayMessage};
+ghost use Rattle.codec.specs.Answers.{sent};
 ghost use Rattle.codec.specs.Parts.{lengthOf, assembled, Within, Framed};
 
 // The 8 bytes before len bytes of data, with check 0000.

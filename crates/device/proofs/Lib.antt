@@ -3,7 +3,7 @@ pub mod Holds
 pub mod Views
 pub mod Sound
 pub mod Standing
-pub mod Numbers
+pub mod Not29Not14
 pub mod Announced
 pub mod Executed
 pub mod Guarded

@@ -14,7 +14,7 @@ use Rattle.message.specs.Version.{goodVersion}
 use Rattle.message.specs.Messages.{GatewayMessage, queryReply, announceReply, executeReply, gatewayValid, Reading, found, toGateway}
 use Rattle.codec.specs.declared.Written.{Written}
 use Rattle.codec.specs.Codec.{Sent, unsent, said, spoken}
-use Rattle.codec.specs.Coded.{sent, Sayable}
+use Rattle.codec.specs.Answers.{sent, Sayable}
 use Rattle.message.specs.declared.Fields.{Fields}
 use Rattle.codec.proofs.RoundTrip.{gateway-round-trip}
 use Rattle.codec.proofs.Speaking.{spoken-said}

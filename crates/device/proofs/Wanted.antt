@@ -9,7 +9,7 @@ use Rattle.basis.specs.Choice.{pick}
 use Rattle.basis.proofs.Choosing.{pick-yes, pick-no, pick-of}
 use Rattle.bitmap.specs.Bitmap.{lowestMissing}
 use Rattle.message.specs.Messages.{downloadReport, found, refused}
-use Rattle.message.specs.Coded.{gatewayMessage}
+use Rattle.message.specs.Enums.{gatewayMessage}
 use Rattle.message.specs.declared.ToGateway
 use Rattle.message.specs.declared.ToGateway.{ToGateway}
 use Rattle.device_record.specs.declared.Device.{Device}

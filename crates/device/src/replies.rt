@@ -10,8 +10,8 @@ ghost use Prim.Native.Nat.{ℕ, _≤_};
 ghost use lib.ListN.{length};
 ghost use Rattle.message.specs.Limits.{deviceRoom};
 ghost use Rattle.message.specs.Messages.{GatewayMessage, found, toGateway};
-ghost use Rattle.message.specs.Coded.{gatewayMessage};
-ghost use Rattle.codec.specs.Coded.{Sayable};
+ghost use Rattle.message.specs.Enums.{gatewayMessage};
+ghost use Rattle.codec.specs.Answers.{Sayable};
 ghost use Rattle.device.specs.Rules.{refuse, moved, replied};
 ghost use Rattle.device.specs.Answers.{afterCall};
 

@@ -13,9 +13,9 @@ use Rattle.basis.proofs.Choosing.{pick-yes, pick-no, passed}
 use Rattle.message.specs.declared.ToGateway.{ToGateway}
 use Rattle.message.specs.Limits.{gatewayRoom}
 use Rattle.message.specs.Messages.{DeviceMessage, query, announce, execute, Reading, found, refused, toDevice, toGateway}
-use Rattle.message.specs.Coded.{gatewayMessage}
+use Rattle.message.specs.Enums.{gatewayMessage}
 use Rattle.codec.specs.Codec.{Sent, readOf, said, spoken}
-use Rattle.codec.specs.Coded.{versionPlace, OfCode}
+use Rattle.codec.specs.Answers.{versionPlace, OfCode}
 use Rattle.codec.proofs.RoundTrip.{device-round-trip, gateway-round-trip}
 use Rattle.codec.proofs.Speaking.{spoken-said, code-read}
 use Rattle.gateway_record.specs.declared.Gateway.{Gateway}

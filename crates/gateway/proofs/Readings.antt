@@ -2,10 +2,10 @@
 use Prim.Native.Nat.{ℕ, _+_, _≤_}
 use native.Mathlib.Omega.{arith}
 use mathlib.Core.Path.{_≡_, refl, sym, _∙_, ap, subst}
-use mathlib.Core.Bool.{Bool, true, false, not}
+use mathlib.Core.Bool.{not}
 use mathlib.Core.List.{List, [], _∷_}
 use mathlib.Core.Logic.{_⊎_, inl, inr}
-use lib.Dec.{T, eqb}
+use lib.Dec.{T}
 use mir.Val.{hasKey}
 use types.Run.{OneOf, miss}
 use denote.Enum.Declared.{tagOf}
@@ -14,26 +14,15 @@ use Rattle.message.specs.declared.ToGateway
 use Rattle.message.specs.declared.ToGateway.{ToGateway}
 use Rattle.message.proofs.ToGateway.{parts, enum, the-type}
 use Rattle.message.specs.Messages.{gatewayCode, toGateway}
-use Rattle.message.specs.Coded.{gatewayMessage}
-use Rattle.codec.specs.Coded.{OfCode}
+use Rattle.message.specs.Enums.{gatewayMessage}
+use Rattle.message.proofs.Variants.{others}
+use Rattle.codec.specs.Answers.{OfCode}
 use Rattle.gateway_record.specs.declared.Gateway.{Gateway}
 use Rattle.gateway.specs.declared.Answer.{Answer}
 use Rattle.gateway.specs.Rules.{After, refuse, handle}
 use Rattle.gateway.specs.Answers.{afterCall}
 
 -- ---- a handler's reading, taken apart
-
--- the variants but one
-abbrev dropped : Bool → ℕ → List ℕ → List ℕ
-dropped true k ks = ks
-dropped false k ks = k ∷ ks
-
-abbrev but : ℕ → List ℕ → List ℕ
-but x [] = []
-but x (k ∷ ks) = dropped (eqb x k) k (but x ks)
-
-abbrev pub others : ℕ → List ℕ
-others k = but k (0 ∷ 1 ∷ 2 ∷ 3 ∷ 4 ∷ 5 ∷ 6 ∷ [])
 
 -- in the else a reading is not of the variant expected
 pub unexpected : {A : Type 0} (m x : ToGateway) → m ≡ x → T (not (hasKey (others (tagOf the-type x)) (tagOf the-type x)))

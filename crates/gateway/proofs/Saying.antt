@@ -12,7 +12,7 @@ use Rattle.message.specs.Limits.{sizeMax, totalMax, totalOk, isWord, gatewayRoo
 use Rattle.message.specs.Messages.{DeviceMessage, query, announce, fragment, execute, fragmentOk, deviceValid, Reading, found, toDevice}
 use Rattle.codec.specs.declared.Written.{Written}
 use Rattle.codec.specs.Codec.{Sent, said, spoken}
-use Rattle.codec.specs.Coded.{sent, Sayable}
+use Rattle.codec.specs.Answers.{sent, Sayable}
 use Rattle.codec.proofs.RoundTrip.{device-round-trip}
 use Rattle.codec.proofs.Speaking.{spoken-said}
 use Rattle.gateway_record.specs.declared.Gateway.{Gateway}

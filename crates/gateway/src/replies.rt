@@ -10,8 +10,8 @@ ghost use Prim.Native.Nat.{ℕ, _≤_};
 ghost use lib.ListN.{length};
 ghost use Rattle.message.specs.Limits.{gatewayRoom};
 ghost use Rattle.message.specs.Messages.{DeviceMessage, found, toDevice};
-ghost use Rattle.message.specs.Coded.{deviceMessage};
-ghost use Rattle.codec.specs.Coded.{Sayable};
+ghost use Rattle.message.specs.Enums.{deviceMessage};
+ghost use Rattle.codec.specs.Answers.{Sayable};
 ghost use Rattle.gateway.specs.Rules.{refuse, moved, replied};
 ghost use Rattle.gateway.specs.Answers.{afterCall};
 

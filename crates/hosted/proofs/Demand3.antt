@@ -11,7 +11,7 @@ use Rattle.gateway_record.specs.declared.Gateway.{Gateway}
 use Rattle.gateway_record.specs.Record.{startOf}
 use Rattle.layout.specs.Layout.{deviceLength, gatewayAt, gatewayLength}
 use Rattle.pcp.specs.Exports.{fact, textOf, Left, deviceNewOf, gatewayStartOf}
-use Rattle.pcp.proofs.Calls.{long-enough}
+use Rattle.pcp.proofs.ExportLaws.{long-enough}
 use Rattle.pcp.proofs.Carrying.{records-carried}
 use Rattle.upgrade.specs.Fold.{after, Allowed}
 use Rattle.upgrade.specs.Calls.{given, asked, finished, GatewayCall, Call, atDevice, atGateway, next, May}

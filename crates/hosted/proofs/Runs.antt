@@ -13,7 +13,7 @@ use Rattle.layout.specs.Layout.{kept, deviceAt, deviceLength, gatewayAt, gatewa
 use Rattle.pcp.specs.Exports.{askAnswer, fact, packed, Left, Asked, DeviceGiven, GatewayGiven, deviceKept, gatewayKept, deviceReceiveOf, deviceNextMessageOf}
 use Rattle.pcp.specs.Exports.{deviceInstallFinishedOf, gatewayReceiveOf, gatewayNextMessageOf}
 use Rattle.pcp.specs.Boundary.{numberIn, lengthIn}
-use Rattle.pcp.proofs.Calls.{long-enough}
+use Rattle.pcp.proofs.ExportLaws.{long-enough}
 use Rattle.pcp.proofs.Refusals.{device-number, device-ask-number, gateway-number, gateway-ask-number}
 use Rattle.pcp.proofs.Carrying.{records-carried}
 use Rattle.upgrade.specs.Calls.{aired, DeviceCall, given, asked, finished, GatewayCall, Call, atDevice, atGateway, next}

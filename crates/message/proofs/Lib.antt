@@ -3,3 +3,4 @@ pub mod Allowed
 pub mod Tables
 pub mod FieldBytes
 pub mod Cases
+pub mod Variants

@@ -2,5 +2,5 @@ pub mod Limits
 pub mod Version
 pub mod Recognition
 pub mod Messages
-pub mod Coded
+pub mod Enums
 pub mod Cases

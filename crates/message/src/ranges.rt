@@ -6,7 +6,7 @@ use crate::version::good_version;
 ghost use mathlib.Core.Path.{_≡_};
 ghost use Rattle.message.specs.Limits.{sizeOk, totalOk};
 ghost use Rattle.message.specs.Messages.{DeviceMessage, GatewayMessage, deviceValid, gatewayValid, fragmentOk, installCode, toDevice, toGateway};
-ghost use Rattle.message.specs.Coded.{deviceMessage, gatewayMessage, validOf};
+ghost use Rattle.message.specs.Enums.{deviceMessage, gatewayMessage, validOf};
 
 // A fragment size.
 fn size_ok(size: u16) -> bool

@@ -31,7 +31,7 @@ use Rattle.layout.proofs.Layouts.{kept-new}
 use Rattle.pcp.specs.Exports.{fact, textOf, Left, DeviceGiven, GatewayGiven, deviceNewOf, deviceReceiveOf, deviceInstallFinishedOf, deviceKept}
 use Rattle.pcp.specs.Exports.{gatewayKept, gatewayStartOf, gatewayReceiveOf}
 use Rattle.pcp.specs.Boundary.{Carried}
-use Rattle.pcp.proofs.Calls.{long-enough}
+use Rattle.pcp.proofs.ExportLaws.{long-enough}
 
 -- ---- version texts of 16 bytes stay so
 

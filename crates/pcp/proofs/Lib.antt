@@ -1,4 +1,4 @@
 pub mod Fits
-pub mod Calls
+pub mod ExportLaws
 pub mod Refusals
 pub mod Carrying

@@ -7,7 +7,7 @@ use mathlib.Core.List.{List, [], _++_, append-assoc}
 use lib.ListN.{length, take, length-append, length-take, take-append-drop}
 use Rattle.basis.specs.Bytes.{over, patched}
 use Rattle.basis.proofs.Lists.{patched-over, length-patched}
-use Rattle.transcript.specs.Coded.{Emitted}
+use Rattle.transcript.specs.Answers.{Emitted}
 
 length-front : (at : ℕ) (xs o : List ℕ) → at ≤ length o → length (take at o ++ xs) ≡ at + length xs
 length-front at xs o h = simp (length-append, length-take) (omega arith)

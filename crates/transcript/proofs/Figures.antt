@@ -11,7 +11,7 @@ use mathlib.Core.Bool.{Bool, true, false}
 use borrow.Author.Tests.{lt-ltb, le-ltb, ltb-true, ltb-false}
 use Rattle.basis.proofs.Choosing.{pick-yes, pick-no, by-cases}
 use Rattle.transcript.specs.Transcript.{replyLength, lineMost}
-use Rattle.transcript.specs.Coded.{Emitted}
+use Rattle.transcript.specs.Answers.{Emitted}
 use Rattle.transcript.proofs.Emitting.{Remaining, complete, room, onward}
 use Rattle.transcript.specs.Text.{space, newline, figures, decimal, numberText, hexFigure, hex, replyText, lineText}
 

@@ -3,7 +3,7 @@ use Prim.Native.Nat.{ℕ, _+_, _≤_}
 use mathlib.Core.List.{List, [], _∷_, _++_}
 use lib.ListN.{length}
 use Rattle.transcript.specs.Text.{space, newline, numberText, replyText, lineText}
-use Rattle.transcript.specs.Coded.{Emitted}
+use Rattle.transcript.specs.Answers.{Emitted}
 use Rattle.transcript.proofs.Emitting.{Remaining, whole, complete, onward, room}
 
 module _ (number outcome phase : ℕ) (reply before : List ℕ) (at : ℕ) (fits : at + length (lineText number outcome phase reply) ≤ length before) where

@@ -13,7 +13,7 @@ use Rattle.basis.proofs.Lists.{patched-front}
 use Rattle.basis.proofs.Choosing.{pick-yes, pick-no, by-cases}
 use Rattle.transcript.specs.Text.{newline, numberText}
 use Rattle.transcript.specs.Transcript.{captureMost, version, at-first, start, textFrom, replayText, outRoom, Replayed, replayOf}
-use Rattle.transcript.specs.Coded.{Emitted, played}
+use Rattle.transcript.specs.Answers.{Emitted, played}
 
 module _ (capture out : List ℕ) where
   pub too-short : length out < outRoom → played 0 out ≡ replayOf capture out

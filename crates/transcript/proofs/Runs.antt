@@ -16,7 +16,7 @@ use Rattle.capture.specs.Capture.{Item, itemAt, placeAfter, headLength}
 use Rattle.capture.proofs.Steps.{Found, is-found}
 use Rattle.transcript.specs.declared.Turn.{Turn}
 use Rattle.transcript.specs.Transcript.{captureMost, replyLength, after, printed, goesOn, textFrom, lineMost, outRoom}
-use Rattle.transcript.specs.Coded.{Emitted, Turned}
+use Rattle.transcript.specs.Answers.{Emitted, Turned}
 use Rattle.transcript.proofs.Emitting.{Remaining, whole, complete, onward}
 use Rattle.transcript.proofs.Figures.{length-line, length-fault}
 

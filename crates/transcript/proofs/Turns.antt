@@ -14,11 +14,11 @@ use Rattle.capture.specs.declared.Step.{Step}
 use Rattle.capture.specs.declared.Step.the-variants.{Record, End, Fault}
 use Rattle.capture.specs.declared.Walked.{Walked}
 use Rattle.capture.specs.Capture.{Item, itemAt, placeAfter, Walk, walkAt, partOf}
-use Rattle.capture.specs.Coded.{itemOf, told}
+use Rattle.capture.specs.Answers.{itemOf, told}
 use Rattle.transcript.specs.declared.Turn.{Turn}
 use Rattle.transcript.specs.Text.{newline, numberText, lineText}
 use Rattle.transcript.specs.Transcript.{replyLength, given, line, after, printed, goesOn, lineMost}
-use Rattle.transcript.specs.Coded.{Emitted, Given, Turned}
+use Rattle.transcript.specs.Answers.{Emitted, Given, Turned}
 use Rattle.transcript.proofs.Emitting.{patched-none}
 use Rattle.transcript.proofs.Figures.{length-line}
 

@@ -1,3 +1,3 @@
 pub mod Text
 pub mod Transcript
-pub mod Coded
+pub mod Answers

@@ -13,7 +13,7 @@ ghost use lib.ListN.{length};
 ghost use Rattle.device.specs.Answers.{afterCall};
 ghost use Rattle.capture.specs.Capture.{itemAt};
 ghost use Rattle.transcript.specs.Transcript.{captureMost, replyLength, textFrom, lineMost, outRoom, replayOf};
-ghost use Rattle.transcript.specs.Coded.{Emitted, Given, Turned, played};
+ghost use Rattle.transcript.specs.Answers.{Emitted, Given, Turned, played};
 
 // The most bytes of a capture; a longer one prints only 21.
 pub const CAPTURE_MOST: usize = 32768;

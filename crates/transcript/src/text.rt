@@ -4,7 +4,7 @@ ghost use mathlib.Core.List.{[], _∷_};
 ghost use Prim.Native.Nat.{_+_, _-_, _%_, _/_, _≤_, _<_};
 ghost use lib.ListN.{length};
 ghost use Rattle.transcript.specs.Text.{decimal, numberText, hexFigure, hex, replyText, lineText};
-ghost use Rattle.transcript.specs.Coded.{Emitted};
+ghost use Rattle.transcript.specs.Answers.{Emitted};
 
 pub(crate) fn put_text(out: &mut [u8], at: usize, text: &[u8]) -> usize
     requires { ⌜ at + length (now text) ≤ length (now out) ⌝ }

@@ -12,13 +12,13 @@ use Rattle.device.proofs.Holds.{Rule}
 use Rattle.device.proofs.Views.{receive-does, install-does}
 use Rattle.device.proofs.Sound.{Sound, sound-fresh, sound-room}
 use Rattle.device.proofs.Standing.{standing, standing-does}
-use Rattle.device.proofs.Numbers.{receive-neither, ask-neither, install-neither}
+use Rattle.device.proofs.Not29Not14.{receive-neither, ask-neither, install-neither}
 use Rattle.upgrade.specs.Fold.{after}
 use Rattle.upgrade.specs.Counted.{Counted, Count, Roomy, Room, lentNext}
 use Rattle.upgrade.specs.Calls.{DeviceCall, given, asked, finished}
 use Rattle.upgrade.specs.Records.{DeviceEnd, deviceNext, deviceRecords, deviceDoes}
 use Rattle.upgrade.proofs.Ends.{deviceNumber}
-use Rattle.upgrade.proofs.Lent.{Kept, kept-by, kept-record, kept-given, kept-installed, given-unmet, asked-unmet, installed-unmet}
+use Rattle.upgrade.proofs.AnyImage.{Kept, kept-by, kept-record, kept-given, kept-installed, given-unmet, asked-unmet, installed-unmet}
 
 -- of the stored bytes nothing in particular is known
 pub any : ℕ → List ℕ → Type 0

@@ -38,7 +38,7 @@ use Rattle.upgrade.proofs.Run.{Plan, Stretch, Run, untaken, taken, run-
 use Rattle.upgrade.proofs.DeviceCalls.{StillAt, DoesAt, holding-busy, inputOf, outIn, call-does, next-is, says-is}
 use Rattle.upgrade.proofs.GatewaySteps.{heardIn, gateway-turns}
 use Rattle.upgrade.proofs.DeviceSteps.{not-success}
-use Rattle.upgrade.proofs.Life.{Among, Lived, lived, lived-fresh}
+use Rattle.upgrade.proofs.BeforeStart.{Among, Lived, lived, lived-fresh}
 use Rattle.upgrade.proofs.History.{ExecutedIn, executed-later, executed-now, installed-later, installed-now}
 use Rattle.upgrade.proofs.Joined.{joined}
 use Rattle.upgrade.proofs.Worlds.{device-hears, gateway-keeps, device-keeps}

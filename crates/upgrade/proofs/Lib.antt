@@ -1,5 +1,5 @@
 pub mod Ends
-pub mod Lent
+pub mod AnyImage
 pub mod Count
 pub mod Folds
 pub mod Air
@@ -7,7 +7,7 @@ pub mod Run
 pub mod GatewaySteps
 pub mod DeviceCalls
 pub mod DeviceSteps
-pub mod Life
+pub mod BeforeStart
 pub mod History
 pub mod Joined
 pub mod Worlds

@@ -5,7 +5,7 @@ use native.Mathlib.Omega.{arith}
 use mathlib.Core.Path.{refl, sym, _∙_, ap}
 use Rattle.capture.specs.declared.Step.{Step}
 use Rattle.capture.specs.Capture.{placeAfter}
-use Rattle.capture.specs.Coded.{itemOf}
+use Rattle.capture.specs.Answers.{itemOf}
 use Rattle.capture.proofs.Steps.{steps, is-found}
 use Rattle.capture.proofs.walk_at.Statement.{statement}
 use Rattle.capture.proofs.walk_at.Tie as tie

@@ -38,13 +38,13 @@ use denote.Triple.Walked.{says, Stays, stay-none, stay-none-slice, walkOf, goes-
 use denote.Exit.{yes}
 use denote.Triple.Clauses.{ensured, lasts}
 use Rattle.capture.specs.Capture.{walkAt}
-use Rattle.capture.specs.Coded.{told}
+use Rattle.capture.specs.Answers.{told}
 use Rattle.capture.specs.Reader.{readerAt}
 use Rattle.capture.specs.declared.CaptureReader.{CaptureReader}
 use Rattle.capture.specs.declared.Walked.{Walked}
 use Rattle.capture.proofs.CaptureReader as T
 use Rattle.capture.proofs.CaptureReader.Laws as T′
-use Rattle.capture.proofs.Held.{reader, sliceOf, OwnSlice, both, AsksSlice, twice, AsksReader, passed-on, AsksMove, passed-with}
+use Rattle.capture.proofs.Walks.{reader, sliceOf, OwnSlice, both, AsksSlice, twice, AsksReader, passed-on, AsksMove, passed-with}
 use Rattle.capture.proofs.Walked as S
 use Rattle.capture.proofs.Walked.Laws as S′
 use Rattle.capture.proofs.CaptureReader.new as new

@@ -39,7 +39,7 @@ use denote.Exit.{yes}
 use Rattle.capture.specs.Reader.{readerAt}
 use Rattle.capture.specs.declared.CaptureReader.{CaptureReader}
 use Rattle.capture.proofs.CaptureReader.Laws as T′
-use Rattle.capture.proofs.Held.{reader, D, L, fields, mach, Own}
+use Rattle.capture.proofs.Walks.{reader, D, L, fields, mach, Own}
 use Rattle.capture.proofs.CaptureReader.moved.Key.{name as #capture·moved}
 use Rattle.capture.proofs.CaptureReader.moved as moved
 use Rattle.capture.proofs.CaptureReader.moved.Statement as stated

@@ -33,7 +33,7 @@ use denote.Triple.Table.{entered}
 use denote.Triple.Walked.{says, Stays, stay-none-slice, walkOf, goes-none-slice, Walks, ends-at, walked, walk-meets}
 use denote.Exit.{yes}
 use Rattle.capture.specs.Reader.{readerAt}
-use Rattle.capture.proofs.Held.{mach, Part, sliceOf, OwnSlice, together}
+use Rattle.capture.proofs.Walks.{mach, Part, sliceOf, OwnSlice, together}
 use Rattle.capture.proofs.CaptureReader.new.Key.{name as #capture·new}
 use Rattle.capture.proofs.CaptureReader.new as new
 use Rattle.capture.proofs.CaptureReader.new.Statement as stated

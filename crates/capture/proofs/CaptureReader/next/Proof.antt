@@ -36,11 +36,11 @@ use denote.Triple.Walked.{says, Stays, stay-none, walkOf, goes-none, Walks, ends
 use denote.Exit.{yes}
 use denote.Triple.Clauses.{ensured, lasts}
 use Rattle.capture.specs.Capture.{walkAt}
-use Rattle.capture.specs.Coded.{told}
+use Rattle.capture.specs.Answers.{told}
 use Rattle.capture.specs.declared.CaptureReader.{CaptureReader}
 use Rattle.capture.specs.declared.Walked.{Walked}
 use Rattle.capture.proofs.CaptureReader.Laws as T′
-use Rattle.capture.proofs.Held.{reader, D, L, mach, Own, both, Asks, apart}
+use Rattle.capture.proofs.Walks.{reader, D, L, mach, Own, both, Asks, apart}
 use Rattle.capture.proofs.Walked as S
 use Rattle.capture.proofs.Walked.Laws as S′
 use Rattle.capture.proofs.walk_at as called

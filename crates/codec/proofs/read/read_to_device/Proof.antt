@@ -1,6 +1,6 @@
 -- `codec::read::read_to_device` meets its contract: recognised first, then the candidate of its code, kept where its fields are allowed and their
 -- bytes are all the data. Assumes nothing.
-use Rattle.message.specs.Coded.{deviceMessage, validOf}
+use Rattle.message.specs.Enums.{deviceMessage, validOf}
 use Rattle.codec.specs.Parts.{dataOf}
 use Rattle.codec.proofs.Reading.{bytes-drop, device-starts, read-refused, Tested, read-tested}
 use Rattle.codec.proofs.Laying.{length-laid}

@@ -7,8 +7,8 @@ use lib.ListN.{length}
 use Rattle.basis.specs.Bytes.{Bytes, part}
 use Rattle.basis.proofs.Lists.{length-part}
 use Rattle.message.specs.Messages.{toGateway}
-use Rattle.message.specs.Coded.{gatewayMessage, validOf}
-use Rattle.codec.specs.Coded.{versionPlace}
+use Rattle.message.specs.Enums.{gatewayMessage, validOf}
+use Rattle.codec.specs.Answers.{versionPlace}
 use Rattle.codec.specs.Parts.{dataOf}
 use Rattle.codec.proofs.Laying.{length-laid}
 use Rattle.codec.proofs.Reading.{bytes-drop, gateway-starts, read-refused, Tested, read-tested}

@@ -1,7 +1,7 @@
 -- `codec::write::write_to_device` meets its contract: 15 for a short buffer, 8 for what the table does not allow, else the parts written. Assumes
 -- nothing.
 use Rattle.codec.proofs.Writing.{device-fits, write-short, write-bad, write-done, room-for, meant-framed}
-use Rattle.message.specs.Coded.{deviceMessage}
+use Rattle.message.specs.Enums.{deviceMessage}
 use Rattle.message.specs.Messages.{toDevice}
 use borrow.Author.Tests.{not-true, not-false}
 use lib.ListN.{length}

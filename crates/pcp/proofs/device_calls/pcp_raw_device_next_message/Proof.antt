@@ -1,6 +1,6 @@
 -- `pcp::device_calls::pcp_raw_device_next_message` meets its contract: 64 for a short record buffer, else the device's call; its answer fits, since
 -- no reply is longer than its room. Assumes nothing.
-use Rattle.pcp.proofs.Calls.{too-short, device-asked, device-ask-below}
+use Rattle.pcp.proofs.ExportLaws.{too-short, device-asked, device-ask-below}
 use Rattle.pcp.specs.Exports.{deviceNextMessageOf}
 use Rattle.layout.specs.Layout.{deviceLength}
 use borrow.Author.Needs.{needs}

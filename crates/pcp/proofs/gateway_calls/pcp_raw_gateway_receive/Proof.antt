@@ -1,6 +1,6 @@
 -- `pcp::gateway_calls::pcp_raw_gateway_receive` meets its contract: 64 for a short record buffer, else the gateway's call between reading the
 -- record and keeping it. Assumes nothing.
-use Rattle.pcp.proofs.Calls.{too-short, gateway-given, gateway-reply-below}
+use Rattle.pcp.proofs.ExportLaws.{too-short, gateway-given, gateway-reply-below}
 use Rattle.pcp.specs.Exports.{gatewayReceiveOf}
 use Rattle.layout.specs.Layout.{gatewayLength}
 use borrow.Author.Needs.{needs}

@@ -3,7 +3,7 @@
 use mathlib.Core.Path.{sym, _∙_}
 use borrow.Author.Tests.{eq-eqb, ne-eqb}
 use Rattle.basis.proofs.Choosing.{pick-yes, pick-no}
-use Rattle.pcp.proofs.Calls.{too-short, gateway-started}
+use Rattle.pcp.proofs.ExportLaws.{too-short, gateway-started}
 use Rattle.pcp.specs.Exports.{gatewayStartOf}
 use Rattle.layout.specs.Layout.{gatewayLength}
 use borrow.Author.Needs.{needs}

@@ -21,7 +21,7 @@ use Rattle.device.proofs.Views
 use Rattle.device.proofs.Views.{receive-does, install-does}
 use Rattle.device.proofs.Sound.{Download, Sound, sound-record, sound-room, sound-under, sound-begun, sound-stored, sound-idle, sound-moved, sound-executed}
 use Rattle.device.proofs.Sound.{sound-outcome, sound-does}
-use Rattle.device.proofs.Numbers.{heard-most, ask-neither, install-neither}
+use Rattle.device.proofs.Not29Not14.{heard-most, ask-neither, install-neither}
 use Rattle.device.proofs.Guarded.{asking-passed, receiving-passed}
 
 -- of the image's bytes nothing is asked
