@@ -11,7 +11,7 @@ use Rattle.message.specs.declared.ToDevice.{ToDevice}
 use Rattle.message.specs.declared.ToGateway
 use Rattle.message.specs.declared.ToGateway.{ToGateway}
 use Rattle.codec.specs.declared.parts.Parts.{Parts}
-use Rattle.message.specs.Messages.{deviceCode, deviceData, gatewayCode, gatewayData, Table, toDevice, toGateway, Reading}
+use Rattle.message.specs.Messages.{Table, toDevice, toGateway, Reading, deviceRow, gatewayRow}
 use Rattle.message.specs.Enums.{deviceMessage, gatewayMessage}
 use Rattle.codec.specs.Parts.{dataOf, bare, withResult, withVersion, withWords, withData, lengthOf, assembled, Within, Laid}
 
@@ -26,32 +26,32 @@ unfolding assembled
 device-refused n k = record { within = omega arith; code = λ v d. refl; bytes = λ v d e f. refl }
 
 pub device-query : (n : ℕ) → Laid toDevice (bare 19) n (deviceMessage ToDevice.Query)
-unfolding assembled deviceCode deviceData
+unfolding assembled deviceRow
 device-query n = record { within = omega arith; code = λ v d. refl; bytes = λ v d e f. refl }
 
 pub device-announce : (n size total code : ℕ)
     → Laid toDevice (withWords (withVersion (bare 20)) (wordBytes size ++ (wordBytes total ++ wordBytes code)) 6) n
     (deviceMessage (ToDevice.Announce size total code))
-unfolding assembled deviceCode deviceData
+unfolding assembled deviceRow
 device-announce n size total code =
     record { within = omega arith; code = λ v d. refl; bytes = λ v d e f. rw (all 16 v e) }
 
 pub device-fragment : (n result index : ℕ)
     → Laid toDevice (withData (withWords (withResult (bare 21) result) (wordBytes index ++ (wordBytes 0 ++ wordBytes 0)) 2) n) n
     (deviceMessage (ToDevice.Fragment result index))
-unfolding assembled deviceCode deviceData
+unfolding assembled deviceRow
 device-fragment n result index = record { within = omega arith; code = λ v d. refl; bytes = λ v d e f. rw (all n d f) }
 
 pub device-download : (n result : ℕ) → Laid toDevice (withResult (bare 22) result) n (deviceMessage (ToDevice.DownloadReply result))
-unfolding assembled deviceCode deviceData
+unfolding assembled deviceRow
 device-download n result = record { within = omega arith; code = λ v d. refl; bytes = λ v d e f. refl }
 
 pub device-execute : (n : ℕ) → Laid toDevice (bare 23) n (deviceMessage ToDevice.Execute)
-unfolding assembled deviceCode deviceData
+unfolding assembled deviceRow
 device-execute n = record { within = omega arith; code = λ v d. refl; bytes = λ v d e f. refl }
 
 pub device-result : (n result : ℕ) → Laid toDevice (withResult (bare 24) result) n (deviceMessage (ToDevice.ResultReply result))
-unfolding assembled deviceCode deviceData
+unfolding assembled deviceRow
 device-result n result = record { within = omega arith; code = λ v d. refl; bytes = λ v d e f. refl }
 
 -- ---- toward the gateway
@@ -61,29 +61,29 @@ unfolding assembled
 gateway-refused k = record { within = omega arith; code = λ v d. refl; bytes = λ v d e f. refl }
 
 pub gateway-query : (result : ℕ) → Laid toGateway (withVersion (withResult (bare 19) result)) 0 (λ v d. gatewayMessage (ToGateway.QueryReply result) v)
-unfolding assembled gatewayCode gatewayData
+unfolding assembled gatewayRow
 gateway-query result = record { within = omega arith; code = λ v d. refl; bytes = λ v d e f. rw (all 16 v e, append-nil v) }
 
 pub gateway-announce : (result : ℕ) → Laid toGateway (withResult (bare 20) result) 0 (λ v d. gatewayMessage (ToGateway.AnnounceReply result) v)
-unfolding assembled gatewayCode gatewayData
+unfolding assembled gatewayRow
 gateway-announce result = record { within = omega arith; code = λ v d. refl; bytes = λ v d e f. refl }
 
 pub gateway-fragment : (index : ℕ)
     → Laid toGateway (withWords (withVersion (bare 21)) (wordBytes index ++ (wordBytes 0 ++ wordBytes 0)) 2) 0
     (λ v d. gatewayMessage (ToGateway.FragmentRequest index) v)
-unfolding assembled gatewayCode gatewayData
+unfolding assembled gatewayRow
 gateway-fragment index = record { within = omega arith; code = λ v d. refl; bytes = λ v d e f. rw (all 16 v e) }
 
 pub gateway-download : (result : ℕ) → Laid toGateway (withResult (bare 22) result) 0 (λ v d. gatewayMessage (ToGateway.DownloadReport result) v)
-unfolding assembled gatewayCode gatewayData
+unfolding assembled gatewayRow
 gateway-download result = record { within = omega arith; code = λ v d. refl; bytes = λ v d e f. refl }
 
 pub gateway-execute : (result : ℕ) → Laid toGateway (withResult (bare 23) result) 0 (λ v d. gatewayMessage (ToGateway.ExecuteReply result) v)
-unfolding assembled gatewayCode gatewayData
+unfolding assembled gatewayRow
 gateway-execute result = record { within = omega arith; code = λ v d. refl; bytes = λ v d e f. refl }
 
 pub gateway-result : (result : ℕ) → Laid toGateway (withVersion (withResult (bare 24) result)) 0 (λ v d. gatewayMessage (ToGateway.ResultReport result) v)
-unfolding assembled gatewayCode gatewayData
+unfolding assembled gatewayRow
 gateway-result result = record { within = omega arith; code = λ v d. refl; bytes = λ v d e f. rw (all 16 v e, append-nil v) }
 
 -- ---- the length of the data

@@ -14,7 +14,8 @@ use Rattle.basis.specs.Bytes.{Bytes, part, same}
 use Rattle.basis.proofs.Choosing.{pick-yes, pick-no, by-cases, eqb-alike}
 use Rattle.basis.proofs.Lists.{part-rest, same-part, word-high, word-low}
 use Rattle.message.specs.Recognition.{recognition}
-use Rattle.message.specs.Messages.{DeviceMessage, deviceData, deviceFields, GatewayMessage, gatewayData, gatewayFields, Table, Reading, found, refused}
+use Rattle.message.specs.Messages.{DeviceMessage, deviceFields, GatewayMessage, gatewayFields, Table, Reading, found, refused, deviceRow, gatewayRow}
+use Rattle.message.specs.Messages.{toDevice, toGateway}
 use Rattle.codec.specs.Codec.{readOf}
 use Rattle.message.specs.Enums.{validOf}
 use Rattle.codec.specs.Parts.{dataOf}
@@ -27,8 +28,8 @@ abbrev Starts : List ℕ → List ℕ → Type 0
 Starts d xs = xs ≡ part d 0 (length xs)
 
 module _ (code : ℕ) (d : List ℕ) (b : Bytes d) where
-  pub device-starts : Starts d (deviceData (deviceFields code d))
-  unfolding deviceFields deviceData part
+  pub device-starts : Starts d (toDevice .content (deviceFields code d))
+  unfolding deviceFields deviceRow part
   device-starts =
       by-cases P (λ _. refl)
       (λ _. by-cases P (λ _. rw (word-high d 16 b, word-low d 16 b, word-high d 18 b, word-low d 18 b, word-high d 20 b, word-low d 20 b))
@@ -37,10 +38,10 @@ module _ (code : ℕ) (d : List ℕ) (b : Bytes d) where
       (λ _. by-cases P (λ _. refl) (λ _. refl)))))
     where
       P : DeviceMessage → Type 0
-      P m = Starts d (deviceData m)
+      P m = Starts d (toDevice .content m)
 
-  pub gateway-starts : Starts d (gatewayData (gatewayFields code d))
-  unfolding gatewayFields gatewayData part
+  pub gateway-starts : Starts d (toGateway .content (gatewayFields code d))
+  unfolding gatewayFields gatewayRow part
   gateway-starts =
       by-cases P (λ _. refl)
       (λ _. by-cases P (λ _. refl)
@@ -49,7 +50,7 @@ module _ (code : ℕ) (d : List ℕ) (b : Bytes d) where
       (λ _. by-cases P (λ _. refl) (λ _. refl)))))
     where
       P : GatewayMessage → Type 0
-      P m = Starts d (gatewayData m)
+      P m = Starts d (toGateway .content m)
 
 -- ---- the reader's three answers, for either table
 

@@ -17,8 +17,8 @@ use Rattle.checksum.specs.Check.{messageCheck}
 use Rattle.codec.specs.declared.parts.Parts.{Parts}
 use Rattle.message.specs.Limits.{isWord, deviceRoom, gatewayRoom}
 use Rattle.message.specs.Version.{goodVersion}
-use Rattle.message.specs.Messages.{DeviceMessage, deviceData, deviceValid, fragmentOk, installCode, GatewayMessage, gatewayData, gatewayValid, Table, toDevice}
-use Rattle.message.specs.Messages.{toGateway, Reading, found, refused}
+use Rattle.message.specs.Messages.{DeviceMessage, fragmentOk, installCode, GatewayMessage, Table, toDevice, toGateway, Reading, found, refused}
+use Rattle.message.specs.Messages.{deviceRow, gatewayRow}
 use Rattle.codec.specs.Codec.{sealed, frame, bytesOf, Sent, writeOf}
 use Rattle.message.specs.Enums.{validOf}
 use Rattle.codec.specs.Parts.{codeOf, dataOf, lengthOf, assembled, Within, Laid, Framed}
@@ -102,7 +102,7 @@ module _ (p : Parts) (v d o : List ℕ) (len : ℕ) (w : Within p (length d)) (s
 -- ---- a message that is allowed fits its sender's buffer
 
 pub device-fits : (r : Reading DeviceMessage) → validOf toDevice r ≡ true → 8 + length (dataOf toDevice r) ≤ gatewayRoom
-unfolding deviceValid deviceData
+unfolding deviceRow
 device-fits (refused n) h = absurd (false≢true h)
 device-fits (found DeviceMessage.query) h = omega arith
 device-fits (found (DeviceMessage.announce f)) h = simp length-append (omega (arith, text-length (f .version) (and-left _ _ h)))
@@ -113,7 +113,7 @@ device-fits (found DeviceMessage.execute) h = omega arith
 device-fits (found (DeviceMessage.resultReply result)) h = omega arith
 
 pub gateway-fits : (r : Reading GatewayMessage) → validOf toGateway r ≡ true → 8 + length (dataOf toGateway r) ≤ deviceRoom
-unfolding gatewayValid gatewayData
+unfolding gatewayRow
 gateway-fits (refused n) h = absurd (false≢true h)
 gateway-fits (found (GatewayMessage.queryReply result version)) h = omega
     (arith, text-length version (and-right (oneOf result (0x00 ∷ [])) (goodVersion version) h))

@@ -10,8 +10,8 @@ use lib.Seq.{take-at, drop-at}
 use Rattle.basis.specs.Choice.{pick}
 use Rattle.basis.specs.Bytes.{wordAt, wordBytes}
 use Rattle.message.specs.declared.Fields.{Fields}
-use Rattle.message.specs.Messages.{DeviceMessage, deviceCode, deviceData, deviceFields, GatewayMessage, gatewayCode, gatewayData, gatewayFields, Table}
-use Rattle.message.specs.Messages.{toDevice, toGateway, found}
+use Rattle.message.specs.Messages.{DeviceMessage, deviceFields, GatewayMessage, gatewayFields, Table, toDevice, toGateway, found, deviceRow}
+use Rattle.message.specs.Messages.{gatewayRow}
 use Rattle.codec.specs.Codec.{sealed, frame, bytesOf, readOf}
 use Rattle.codec.proofs.RoundTrip.{FoundIn, Tells, read-tells}
 
@@ -66,9 +66,9 @@ requested v w i j e =
     ap₂ GatewayMessage.fragmentRequest (h .0) (same-word i j (ap (λ (l : List ℕ). wordAt l 0) (h .1)))
 
 pub device-told : Told toDevice
-unfolding Told deviceCode deviceData deviceFields pick words
+unfolding Told deviceRow deviceFields pick words
 device-told DeviceMessage.query n e c = sym e
-device-told (DeviceMessage.announce f) n e c = sym e ∙ announced f _ (ap deviceData e ∙ c)
+device-told (DeviceMessage.announce f) n e c = sym e ∙ announced f _ (ap (toDevice .content) e ∙ c)
 device-told (DeviceMessage.fragment result index bytes) n e c =
     sym e ∙ ap (λ (i : ℕ). DeviceMessage.fragment result i bytes) (div-add-mod' index 256)
 device-told (DeviceMessage.downloadReply result) n e c = sym e
@@ -76,12 +76,12 @@ device-told DeviceMessage.execute n e c = sym e
 device-told (DeviceMessage.resultReply result) n e c = sym e
 
 pub gateway-told : Told toGateway
-unfolding Told gatewayCode gatewayData gatewayFields pick
+unfolding Told gatewayRow gatewayFields pick
 gateway-told (GatewayMessage.queryReply result version) n e c =
-    sym e ∙ ap (GatewayMessage.queryReply result) (ap (drop 1) (ap gatewayData e ∙ c))
+    sym e ∙ ap (GatewayMessage.queryReply result) (ap (drop 1) (ap (toGateway .content) e ∙ c))
 gateway-told (GatewayMessage.announceReply result) n e c = sym e
-gateway-told (GatewayMessage.fragmentRequest version index) n e c = sym e ∙ requested _ version _ index (ap gatewayData e ∙ c)
+gateway-told (GatewayMessage.fragmentRequest version index) n e c = sym e ∙ requested _ version _ index (ap (toGateway .content) e ∙ c)
 gateway-told (GatewayMessage.downloadReport result) n e c = sym e
 gateway-told (GatewayMessage.executeReply result) n e c = sym e
 gateway-told (GatewayMessage.resultReport result version) n e c =
-    sym e ∙ ap (GatewayMessage.resultReport result) (ap (drop 1) (ap gatewayData e ∙ c))
+    sym e ∙ ap (GatewayMessage.resultReport result) (ap (drop 1) (ap (toGateway .content) e ∙ c))

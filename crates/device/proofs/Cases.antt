@@ -7,7 +7,7 @@ use Rattle.checksum.specs.Check.{doubled, entryOf, step, register, checkOf, zer
 use Rattle.message.specs.Limits.{sizeOk, totalOk, isWord}
 use Rattle.message.specs.Version.{printable, front, allZero, goodVersion}
 use Rattle.message.specs.Recognition.{startHolds, versionByteHolds, codeHolds, checkHolds, lengthHolds, recognition}
-use Rattle.message.specs.Messages.{deviceCode, deviceData, deviceValid, deviceFields, fragmentOk, gatewayCode, gatewayData, installCode}
+use Rattle.message.specs.Messages.{deviceFields, fragmentOk, installCode, deviceRow, gatewayRow}
 use Rattle.codec.specs.Codec.{sealed, frame, bytesOf, readOf, said}
 use Rattle.device_record.specs.Record.{holding, conditionOk, downloadOk, recordOk, mapBytes, roomOk}
 use Rattle.device.specs.Rules.{announceResult, sameFields, resumes, fragmentLength, fragmentNumber, passes, completion, executeResult}
@@ -19,7 +19,7 @@ pub device-cases : DeviceCases
 unfolding pick refusal oneOf part same over patched marked mark cleared missingFrom lowestMissing
     doubled entryOf step register checkOf zeroed messageCheck sizeOk totalOk isWord printable front allZero goodVersion
     startHolds versionByteHolds codeHolds checkHolds lengthHolds recognition
-    deviceCode deviceData deviceValid deviceFields fragmentOk gatewayCode gatewayData installCode sealed frame bytesOf readOf said
+    deviceRow deviceFields fragmentOk gatewayRow installCode sealed frame bytesOf readOf said
     holding conditionOk downloadOk recordOk mapBytes roomOk
     announceResult sameFields resumes fragmentLength fragmentNumber passes completion executeResult
     begin store onQuery onAnnounce onFragment onDownloadReply onExecute onResultReply handle

@@ -13,7 +13,7 @@ use borrow.Enum.Known.{ValuesAt, at, at-one, lives-at}
 use Rattle.message.specs.declared.ToDevice
 use Rattle.message.specs.declared.ToDevice.{ToDevice}
 use Rattle.message.proofs.ToDevice.{parts, enum, the-type}
-use Rattle.message.specs.Messages.{deviceCode, toDevice}
+use Rattle.message.specs.Messages.{toDevice, deviceRow}
 use Rattle.message.specs.Enums.{deviceMessage}
 use Rattle.message.proofs.Variants.{others}
 use Rattle.codec.specs.Answers.{OfCode}
@@ -67,7 +67,7 @@ module _ (d : Device) (image map reply : List ℕ) (condition : ℕ) (version by
   -- a refusal, or the message of the code
   placed : (m : ToDevice) → OfCode toDevice code (deviceMessage m version bytes)
       → (tagOf the-type m ≡ 0) ⊎ ((code ≡ 18 + tagOf the-type m) × ((1 ≤ tagOf the-type m) × (tagOf the-type m ≤ 6)))
-  unfolding deviceCode
+  unfolding deviceRow
   placed (ToDevice.Refused number) c = inl refl
   placed ToDevice.Query c = inr (sym c, omega arith)
   placed (ToDevice.Announce size total check) c = inr (sym c, omega arith)

@@ -11,7 +11,7 @@ use Rattle.basis.proofs.Choosing.{by-cases, pick-yes, pick-no, and-both, one-of
 use Rattle.bitmap.specs.Bitmap.{lowestMissing}
 use Rattle.message.specs.Limits.{deviceRoom, isWord}
 use Rattle.message.specs.Version.{goodVersion}
-use Rattle.message.specs.Messages.{GatewayMessage, queryReply, announceReply, executeReply, gatewayValid, Reading, found, toGateway}
+use Rattle.message.specs.Messages.{GatewayMessage, queryReply, announceReply, executeReply, Reading, found, toGateway, gatewayRow}
 use Rattle.codec.specs.declared.Written.{Written}
 use Rattle.codec.specs.Codec.{Sent, unsent, said, spoken}
 use Rattle.codec.specs.Answers.{sent, Sayable}
@@ -35,30 +35,30 @@ reply-said w d image map reply out g m e room v q =
     ap (λ (s : Sent). record { number = s .number; length = s .length; device = d; image = image; map = map; reply = s .buffer })
     (e ∙ spoken-said toGateway gateway-round-trip g reply room v ∙ ap (λ (r : Reading GatewayMessage). said toGateway r reply) q)
 
-pub query-allowed : (version : List ℕ) → goodVersion version ≡ true → gatewayValid (queryReply 0x00 version) ≡ true
-unfolding gatewayValid oneOf
+pub query-allowed : (version : List ℕ) → goodVersion version ≡ true → toGateway .valid (queryReply 0x00 version) ≡ true
+unfolding gatewayRow oneOf
 query-allowed version v = v
 
 pub announce-allowed : (d : Device) (condition : ℕ) (f : Fields) (image map : List ℕ) → conditionOk condition ≡ true
-    → gatewayValid (announceReply (announceResult d condition f image map)) ≡ true
-unfolding gatewayValid oneOf conditionOk announceResult
+    → toGateway .valid (announceReply (announceResult d condition f image map)) ≡ true
+unfolding gatewayRow oneOf conditionOk announceResult
 announce-allowed d condition f image map k =
-    let P : ℕ → Type 0 = λ r. gatewayValid (announceReply r) ≡ true in
+    let P : ℕ → Type 0 = λ r. toGateway .valid (announceReply r) ≡ true in
     by-cases P (λ _. refl)
     (λ _. by-cases P (λ _. one-of-every P condition (0 ∷ 1 ∷ 2 ∷ 4 ∷ 127 ∷ []) k (refl, (refl, (refl, (refl, (refl, tt))))))
     (λ _. by-cases P (λ _. refl) (λ _. by-cases P (λ _. refl) (λ _. by-cases P (λ _. refl) (λ _. refl)))))
 
-pub execute-allowed : (phase condition : ℕ) → gatewayValid (executeReply (executeResult phase condition)) ≡ true
-unfolding gatewayValid oneOf executeResult
+pub execute-allowed : (phase condition : ℕ) → toGateway .valid (executeReply (executeResult phase condition)) ≡ true
+unfolding gatewayRow oneOf executeResult
 execute-allowed phase condition =
-    let P : ℕ → Type 0 = λ r. gatewayValid (executeReply r) ≡ true in
+    let P : ℕ → Type 0 = λ r. toGateway .valid (executeReply r) ≡ true in
     by-cases P (λ _. refl)
     (λ _. by-cases P
     (λ _. by-cases P (λ k. one-of-every P condition (1 ∷ 4 ∷ []) k (refl, (refl, tt))) (λ _. by-cases P (λ _. refl) (λ _. refl)))
     (λ _. refl))
 
 pub wanted-allowed : (d : Device) (map : List ℕ) → recordOk d ≡ true → Sayable toGateway (wanted d map)
-unfolding gatewayValid oneOf wanted isWord
+unfolding gatewayRow oneOf wanted isWord
 wanted-allowed d map e =
     let k : Kept d = record-kept d e in
     by-cases (Sayable toGateway)

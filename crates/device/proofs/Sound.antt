@@ -15,7 +15,7 @@ use Rattle.basis.specs.Bytes.{patched}
 use Rattle.basis.proofs.Choosing.{by-cases, and-left, and-right, and-both}
 use Rattle.message.specs.Limits.{sizeOk, totalOk, isWord}
 use Rattle.message.specs.Version.{goodVersion}
-use Rattle.message.specs.Messages.{fragment, installCode, deviceValid, found}
+use Rattle.message.specs.Messages.{fragment, installCode, found, deviceRow}
 use Rattle.message.specs.declared.Fields.{Fields}
 use Rattle.device_record.specs.declared.Device.{Device}
 use Rattle.device_record.specs.Record.{idle, loading, loaded, acked, failed, installing, reporting, fresh, inPhase, begun, withOutcome, downloadOk, recordOk}
@@ -112,7 +112,7 @@ sound-under rule other d image map so s =
 -- the map was cleared: any rule will do
 pub sound-begun : (rule other : Rule) (d : Device) (image map : List ℕ) (condition : ℕ) (f : Fields) → Views.Begins d image map condition f
     → Sound rule d image map → Sound other (begun f d) image (cleared (mapBytes (f .total)) map)
-unfolding deviceValid
+unfolding deviceRow
 sound-begun rule other d image map condition f b s =
     let v₁ : (sizeOk (f .size) && (totalOk (f .total) && isWord (f .code))) ≡ true = and-right (goodVersion (f .version)) _ (b .valid) in
     let size : sizeOk (f .size) ≡ true = and-left (sizeOk (f .size)) _ v₁ in

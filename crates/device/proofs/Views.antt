@@ -14,9 +14,9 @@ use Rattle.basis.specs.Bytes.{same, over, patched}
 use Rattle.basis.proofs.Choosing.{by-cases, pick-no, and-left, and-right, or-either, passed}
 use Rattle.basis.proofs.Lists.{same-true, take-over}
 use Rattle.message.specs.Limits.{isWord}
-use Rattle.message.specs.Messages.{DeviceMessage, query, announce, fragment, downloadReply, execute, resultReply, GatewayMessage, queryReply, announceReply}
-use Rattle.message.specs.Messages.{fragmentRequest, downloadReport, executeReply, resultReport, installCode, deviceValid, fragmentOk, Reading, found, refused}
-use Rattle.message.specs.Messages.{toDevice, toGateway}
+use Rattle.message.specs.Messages.{DeviceMessage, query, announce, fragment, downloadReply, execute, resultReply, GatewayMessage, queryReply}
+use Rattle.message.specs.Messages.{announceReply, fragmentRequest, downloadReport, executeReply, resultReport, installCode, fragmentOk, Reading}
+use Rattle.message.specs.Messages.{found, refused, toDevice, toGateway, deviceRow}
 use Rattle.codec.specs.Codec.{sealed, frame, bytesOf, readOf, said}
 use Rattle.message.specs.declared.Fields.{Fields}
 use Rattle.codec.proofs.WrittenRead.{read}
@@ -80,7 +80,7 @@ installOut d image map code =
 module _ (d : Device) (image map : List ℕ) where
   -- an announcement is taken up afresh
   pub record Begins (condition : ℕ) (f : Fields) : Type 0 where
-    pub valid : deviceValid (announce f) ≡ true
+    pub valid : toDevice .valid (announce f) ≡ true
     pub result : announceResult d condition f image map ≡ 0
     pub not-resumed : resumes d f ≡ false
     pub phase : d .phase < installing
@@ -166,9 +166,9 @@ spoken-aired m reply =
 -- ---- the guards
 
 -- a choice that comes out 0 and whose first is not 0 is the second
-fragment-result : (result index : ℕ) (bytes : List ℕ) → deviceValid (fragment result index bytes) ≡ true → (result ≡ 0x80 → ⊥) → (result ≡ 0x81 → ⊥)
+fragment-result : (result index : ℕ) (bytes : List ℕ) → toDevice .valid (fragment result index bytes) ≡ true → (result ≡ 0x80 → ⊥) → (result ≡ 0x81 → ⊥)
     → result ≡ 0x00
-unfolding deviceValid fragmentOk oneOf
+unfolding deviceRow fragmentOk oneOf
 fragment-result result index bytes v a b =
     by-cases (λ (t : Bool). t ≡ true → result ≡ 0x00) (λ t _. eqb-true result 0x00 t)
     (λ _ t. absurd (other (or-either (eqb result 0x80) _ (and-left (oneOf result (0x80 ∷ 0x81 ∷ [])) _ t))))
@@ -215,7 +215,7 @@ in-phase phase d e =
 -- ---- one call
 
 module _ (d : Device) (image map : List ℕ) where
-  begins-facts : (condition : ℕ) (f : Fields) → deviceValid (announce f) ≡ true → announceResult d condition f image map ≡ 0 → resumes d f ≡ false
+  begins-facts : (condition : ℕ) (f : Fields) → toDevice .valid (announce f) ≡ true → announceResult d condition f image map ≡ 0 → resumes d f ≡ false
       → Begins d image map condition f
   begins-facts condition f v r e =
       let a : Accepted d image map condition f = accepted-facts d image map condition f r in
@@ -255,7 +255,7 @@ module _ (d : Device) (image map : List ℕ) where
     unfolding P
     tells r m s = still 0 (spoken m) s (ap (out 0 d image map) (spoken-aired m reply))
 
-    announced : (f : Fields) → deviceValid (announce f) ≡ true → P (found (announce f)) (onAnnounce d image map reply condition f)
+    announced : (f : Fields) → toDevice .valid (announce f) ≡ true → P (found (announce f)) (onAnnounce d image map reply condition f)
     unfolding P onAnnounce begin
     announced f v =
         by-cases (P (found (announce f)))
@@ -265,7 +265,7 @@ module _ (d : Device) (image map : List ℕ) where
         (ap (out 0 (begun f d) image (cleared (mapBytes (f .total)) map)) (spoken-aired (announceReply 0x00) reply))))
         (λ t. tells _ _ (declines condition f _ refl refl (eqb-false _ 0 t) refl refl))
 
-    given : (result index : ℕ) (bytes : List ℕ) → deviceValid (fragment result index bytes) ≡ true
+    given : (result index : ℕ) (bytes : List ℕ) → toDevice .valid (fragment result index bytes) ≡ true
         → P (found (fragment result index bytes)) (onFragment d image map reply result index bytes)
     unfolding P onFragment store pick
     given result index bytes v =
@@ -293,7 +293,7 @@ module _ (d : Device) (image map : List ℕ) where
         yes-in (inl e) = rw (in-phase installing d e) (tells _ _ (executes-on condition refl e refl refl))
         yes-in (inr e) = executes condition refl e (ap (out 0 (inPhase installing d) image map) (spoken-aired (executeReply 0x00) reply))
 
-    handled : (r : Reading DeviceMessage) → ((m : DeviceMessage) → r ≡ found m → deviceValid m ≡ true) → P r (handle d image map reply condition r)
+    handled : (r : Reading DeviceMessage) → ((m : DeviceMessage) → r ≡ found m → toDevice .valid m ≡ true) → P r (handle d image map reply condition r)
     unfolding P handle onQuery onDownloadReply onExecute onResultReply pick
     handled (refused n) v = still n [] (unread condition refl refl) refl
     handled (found query) v = tells (found query) _ (queried condition refl refl refl)

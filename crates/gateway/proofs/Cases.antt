@@ -6,7 +6,7 @@ use Rattle.checksum.specs.Check.{doubled, entryOf, step, register, checkOf, zer
 use Rattle.message.specs.Limits.{sizeOk, totalOk, isWord}
 use Rattle.message.specs.Version.{printable, front, allZero, goodVersion}
 use Rattle.message.specs.Recognition.{startHolds, versionByteHolds, codeHolds, checkHolds, lengthHolds, recognition}
-use Rattle.message.specs.Messages.{deviceCode, deviceData, gatewayCode, gatewayData, gatewayValid, gatewayFields, installCode}
+use Rattle.message.specs.Messages.{gatewayFields, installCode, deviceRow, gatewayRow}
 use Rattle.codec.specs.Codec.{sealed, frame, bytesOf, readOf, said}
 use Rattle.gateway_record.specs.Record.{totalOf, lengthOk, fragmentOf, recordOk}
 use Rattle.gateway_decisions.specs.Decisions.{afterQuery, serving, fragmentResult, installEnding}
@@ -17,7 +17,7 @@ use Rattle.gateway.specs.Cases.{GatewayCases}
 pub gateway-cases : GatewayCases
 unfolding pick refusal oneOf part same over doubled entryOf step register checkOf zeroed messageCheck
     sizeOk totalOk isWord printable front allZero goodVersion startHolds versionByteHolds codeHolds checkHolds lengthHolds recognition
-    deviceCode deviceData gatewayCode gatewayData gatewayValid gatewayFields installCode sealed frame bytesOf readOf said
+    deviceRow gatewayRow gatewayFields installCode sealed frame bytesOf readOf said
     totalOf lengthOk fragmentOf recordOk afterQuery serving fragmentResult installEnding fragmentReply
     onQueryReply onAnnounceReply onFragmentRequest onDownloadReport onExecuteReply onResultReport handle receiveOf wanted nextMessageOf
 gateway-cases =

@@ -13,7 +13,7 @@ use borrow.Enum.Known.{ValuesAt, at, at-one, lives-at}
 use Rattle.message.specs.declared.ToGateway
 use Rattle.message.specs.declared.ToGateway.{ToGateway}
 use Rattle.message.proofs.ToGateway.{parts, enum, the-type}
-use Rattle.message.specs.Messages.{gatewayCode, toGateway}
+use Rattle.message.specs.Messages.{toGateway, gatewayRow}
 use Rattle.message.specs.Enums.{gatewayMessage}
 use Rattle.message.proofs.Variants.{others}
 use Rattle.codec.specs.Answers.{OfCode}
@@ -65,7 +65,7 @@ module _ (g : Gateway) (content reply version : List ℕ) (code : ℕ) where
   -- a refusal, or the message of the code
   placed : (m : ToGateway) → OfCode toGateway code (gatewayMessage m version)
       → (tagOf the-type m ≡ 0) ⊎ ((code ≡ 18 + tagOf the-type m) × ((1 ≤ tagOf the-type m) × (tagOf the-type m ≤ 6)))
-  unfolding gatewayCode
+  unfolding gatewayRow
   placed (ToGateway.Refused number) c = inl refl
   placed (ToGateway.QueryReply result) c = inr (sym c, (omega arith, omega arith))
   placed (ToGateway.AnnounceReply result) c = inr (sym c, (omega arith, omega arith))

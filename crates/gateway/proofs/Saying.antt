@@ -9,7 +9,7 @@ use lib.ListN.{length, take, drop}
 use borrow.Author.Tests.{le-leb, lt-ltb, eq-eqb, ne-eqb, eqb-true, eqb-false}
 use Rattle.basis.proofs.Choosing.{by-cases, pick-yes, pick-no, and-both}
 use Rattle.message.specs.Limits.{sizeMax, totalMax, totalOk, isWord, gatewayRoom}
-use Rattle.message.specs.Messages.{DeviceMessage, query, announce, fragment, execute, fragmentOk, deviceValid, Reading, found, toDevice}
+use Rattle.message.specs.Messages.{DeviceMessage, query, announce, fragment, execute, fragmentOk, Reading, found, toDevice, deviceRow}
 use Rattle.codec.specs.declared.Written.{Written}
 use Rattle.codec.specs.Codec.{Sent, said, spoken}
 use Rattle.codec.specs.Answers.{sent, Sayable}
@@ -40,8 +40,8 @@ word-ok n h = lt-ltb n 65536 h
 
 -- ---- the announcement, and what else there is to say
 
-offer-allowed : (g : Gateway) → recordOk g ≡ true → g .fields .code < 65536 → deviceValid (announce (g .fields)) ≡ true
-unfolding deviceValid totalOk
+offer-allowed : (g : Gateway) → recordOk g ≡ true → g .fields .code < 65536 → toDevice .valid (announce (g .fields)) ≡ true
+unfolding deviceRow totalOk
 offer-allowed g e h =
     let s = told g e in
     let t : totalOf (g .length) (g .fields .size) ≤ totalMax = total-most (g .length) (g .fields .size) (omega (arith, s .low)) (s .most) in
@@ -50,11 +50,11 @@ offer-allowed g e h =
     (le-leb (g .fields .total) totalMax (omega (arith, t, s .total)))) (word-ok (g .fields .code) h)))
 
 query-allowed : Sayable toDevice (found query)
-unfolding deviceValid
+unfolding deviceRow
 query-allowed = refl
 
 execute-allowed : Sayable toDevice (found execute)
-unfolding deviceValid
+unfolding deviceRow
 execute-allowed = refl
 
 pub wanted-allowed : (g : Gateway) → recordOk g ≡ true → g .fields .code < 65536 → Sayable toDevice (wanted g)
@@ -78,8 +78,8 @@ module _ (g : Gateway) (content version : List ℕ) (index : ℕ) where
   fragment-given result part e z p = rw (p, ← e, pick-yes (eqb result 0x00) (fragmentOf content (g .fields .size) index) [] (eq-eqb result 0x00 z))
 
   -- 80 and 81 carry no data, and 00 a fragment of the package, whose length is the one at the start
-  pub fragment-allowed : (reply : List ℕ) → Guarded g content reply → index < 65536 → deviceValid (fragmentReply g content version index) ≡ true
-  unfolding deviceValid fragmentReply fragmentOk
+  pub fragment-allowed : (reply : List ℕ) → Guarded g content reply → index < 65536 → toDevice .valid (fragmentReply g content version index) ≡ true
+  unfolding deviceRow fragmentReply fragmentOk
   fragment-allowed reply k h =
       let result : ℕ = fragmentResult (g .phase) (g .fields) version index in
       let whole : List ℕ = fragmentOf content (g .fields .size) index in
@@ -96,10 +96,10 @@ module _ (g : Gateway) (content version : List ℕ) (index : ℕ) where
       (and-both (denied-tells (g .phase) (g .fields) version index (eqb-false result 0x00 n)) refl)))
 
   pub denied-allowed : (reply : List ℕ) → Guarded g content reply → (result : ℕ) → result ≡ fragmentResult (g .phase) (g .fields) version index
-      → (result ≡ 0x00 → ⊥) → index < 65536 → deviceValid (fragment result index []) ≡ true
+      → (result ≡ 0x00 → ⊥) → index < 65536 → toDevice .valid (fragment result index []) ≡ true
   denied-allowed reply k result e n h = rw (fragment-denied result e n) (fragment-allowed reply k h)
 
   pub given-allowed : (reply : List ℕ) → Guarded g content reply → (result : ℕ) (part : List ℕ)
       → result ≡ fragmentResult (g .phase) (g .fields) version index → result ≡ 0x00
-      → part ≡ take (g .fields .size) (drop (index * g .fields .size) content) → index < 65536 → deviceValid (fragment result index part) ≡ true
+      → part ≡ take (g .fields .size) (drop (index * g .fields .size) content) → index < 65536 → toDevice .valid (fragment result index part) ≡ true
   given-allowed reply k result part e z p h = rw (fragment-given result part e z p) (fragment-allowed reply k h)

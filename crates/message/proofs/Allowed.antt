@@ -11,7 +11,7 @@ use Rattle.basis.specs.Choice.{oneOf}
 use Rattle.basis.proofs.Choosing.{by-cases, and-left, and-right, and-true, or-false}
 use Rattle.message.specs.Limits.{sizeMax, sizeOk, totalOk, isWord}
 use Rattle.message.specs.Version.{front, allZero, goodVersion}
-use Rattle.message.specs.Messages.{DeviceMessage, deviceValid, fragmentOk, GatewayMessage, gatewayValid}
+use Rattle.message.specs.Messages.{DeviceMessage, fragmentOk, GatewayMessage, deviceRow, gatewayRow, toDevice, toGateway}
 
 -- ---- what the code does not test: a WORD is one by its type
 
@@ -20,21 +20,21 @@ unfolding isWord
 word-is n h = lt-ltb n 65536 h
 
 pub announce-allowed : (v : List ℕ) (size total code : ℕ) (g s t : Bool) → g ≡ goodVersion v → s ≡ sizeOk size → t ≡ totalOk total → code < 65536
-    → (g && (s && t)) ≡ deviceValid (DeviceMessage.announce (record { version = v; size = size; total = total; code = code }))
-unfolding deviceValid
+    → (g && (s && t)) ≡ toDevice .valid (DeviceMessage.announce (record { version = v; size = size; total = total; code = code }))
+unfolding deviceRow
 announce-allowed v size total code g s t p q r h = rw (p, q, r, word-is code h, and-true (totalOk total))
 
 pub fragment-allowed : (result index : ℕ) (bytes : List ℕ) (b : Bool) → b ≡ fragmentOk result bytes → index < 65536
-    → b ≡ deviceValid (DeviceMessage.fragment result index bytes)
-unfolding deviceValid
+    → b ≡ toDevice .valid (DeviceMessage.fragment result index bytes)
+unfolding deviceRow
 fragment-allowed result index bytes b p h = rw (word-is index h) p
 
-pub query-allowed : (result : ℕ) (v : List ℕ) (g : Bool) → g ≡ goodVersion v → (eqb result 0 && g) ≡ gatewayValid (GatewayMessage.queryReply result v)
-unfolding gatewayValid oneOf
+pub query-allowed : (result : ℕ) (v : List ℕ) (g : Bool) → g ≡ goodVersion v → (eqb result 0 && g) ≡ toGateway .valid (GatewayMessage.queryReply result v)
+unfolding gatewayRow oneOf
 query-allowed result v g p = rw (or-false (eqb result 0), p)
 
-pub request-allowed : (index : ℕ) (v : List ℕ) (g : Bool) → g ≡ goodVersion v → index < 65536 → g ≡ gatewayValid (GatewayMessage.fragmentRequest v index)
-unfolding gatewayValid
+pub request-allowed : (index : ℕ) (v : List ℕ) (g : Bool) → g ≡ goodVersion v → index < 65536 → g ≡ toGateway .valid (GatewayMessage.fragmentRequest v index)
+unfolding gatewayRow
 request-allowed index v g p h = rw (word-is index h, and-true (goodVersion v)) p
 
 -- ---- lengths of what is allowed

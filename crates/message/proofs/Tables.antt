@@ -15,8 +15,8 @@ use Rattle.basis.proofs.Choosing.{by-cases, and-left, and-right}
 use Rattle.basis.proofs.Lists.{part-within}
 use Rattle.message.specs.Limits.{sizeMax, isWord}
 use Rattle.message.specs.Version.{goodVersion}
-use Rattle.message.specs.Messages.{DeviceMessage, deviceCode, deviceData, deviceValid, deviceFields, fragmentOk, GatewayMessage, gatewayCode, gatewayData}
-use Rattle.message.specs.Messages.{gatewayValid, gatewayFields, installCode, Table, toDevice, toGateway}
+use Rattle.message.specs.Messages.{DeviceMessage, deviceFields, fragmentOk, GatewayMessage, gatewayFields, installCode, Table, toDevice}
+use Rattle.message.specs.Messages.{toGateway, deviceRow, gatewayRow}
 
 -- what the round trips need of a column
 pub record Lawful (t : Table) : Type 0 where
@@ -67,8 +67,8 @@ fragment-length result bytes =
     by-cases (λ (t : Bool). t ≡ true → length bytes ≤ sizeMax) (λ _ e. leb-true _ _ (and-right (leb 1 (length bytes)) _ e))
     (λ _ e. omega (arith, eqb-true (length bytes) 0 (and-right (oneOf result (0x80 ∷ 0x81 ∷ [])) _ e)))
 
-device-message : (m : DeviceMessage) → deviceValid m ≡ true → Message toDevice m
-unfolding deviceValid deviceFields deviceCode deviceData pick
+device-message : (m : DeviceMessage) → toDevice .valid m ≡ true → Message toDevice m
+unfolding deviceRow deviceFields pick
 device-message DeviceMessage.query v = (refl, omega arith)
 device-message (DeviceMessage.announce f) v =
     let n : length (f .version) ≡ 16 = version-length (f .version) (and-left _ _ v) in
@@ -90,17 +90,17 @@ device-message (DeviceMessage.downloadReply result) v = (refl, omega arith)
 device-message DeviceMessage.execute v = (refl, omega arith)
 device-message (DeviceMessage.resultReply result) v = (refl, omega arith)
 
-device-kept : (code : ℕ) (d : List ℕ) → 19 ≤ code → code ≤ 24 → deviceCode (deviceFields code d) ≡ code
-unfolding deviceFields deviceCode
-device-kept code d low high = by-code DeviceMessage deviceCode code low high refl refl refl refl refl refl
+device-kept : (code : ℕ) (d : List ℕ) → 19 ≤ code → code ≤ 24 → toDevice .code (deviceFields code d) ≡ code
+unfolding deviceFields deviceRow
+device-kept code d low high = by-code DeviceMessage (toDevice .code) code low high refl refl refl refl refl refl
 
 pub device-lawful : Lawful toDevice
 device-lawful = record { restored = λ m v. device-message m v .0; bounds = λ m v. device-message m v .1; code-kept = device-kept }
 
 -- ---- toward the gateway
 
-gateway-message : (m : GatewayMessage) → gatewayValid m ≡ true → Message toGateway m
-unfolding gatewayValid gatewayFields gatewayCode gatewayData pick
+gateway-message : (m : GatewayMessage) → toGateway .valid m ≡ true → Message toGateway m
+unfolding gatewayRow gatewayFields pick
 gateway-message (GatewayMessage.queryReply result version) v =
     let n : length version ≡ 16 = version-length version (and-right (oneOf result (0x00 ∷ [])) _ v) in
     (rw (part-rest result version 16 n), omega arith)
@@ -114,9 +114,9 @@ gateway-message (GatewayMessage.resultReport result version) v =
     let n : length version ≡ 16 = version-length version (and-right (installCode result) _ v) in
     (rw (part-rest result version 16 n), omega arith)
 
-gateway-kept : (code : ℕ) (d : List ℕ) → 19 ≤ code → code ≤ 24 → gatewayCode (gatewayFields code d) ≡ code
-unfolding gatewayFields gatewayCode
-gateway-kept code d low high = by-code GatewayMessage gatewayCode code low high refl refl refl refl refl refl
+gateway-kept : (code : ℕ) (d : List ℕ) → 19 ≤ code → code ≤ 24 → toGateway .code (gatewayFields code d) ≡ code
+unfolding gatewayFields gatewayRow
+gateway-kept code d low high = by-code GatewayMessage (toGateway .code) code low high refl refl refl refl refl refl
 
 pub gateway-lawful : Lawful toGateway
 gateway-lawful = record { restored = λ m v. gateway-message m v .0; bounds = λ m v. gateway-message m v .1; code-kept = gateway-kept }

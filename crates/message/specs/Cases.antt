@@ -7,9 +7,8 @@ use lib.ListN.{replicate}
 use Rattle.basis.specs.Cases.{Agree, allowed}
 use Rattle.message.specs.Limits.{sizeOk, totalOk, isWord}
 use Rattle.message.specs.Version.{goodVersion}
-use Rattle.message.specs.Messages.{DeviceMessage, query, announce, fragment, downloadReply, execute, resultReply, deviceCode, deviceData, deviceValid}
-use Rattle.message.specs.Messages.{GatewayMessage, queryReply, announceReply, fragmentRequest, downloadReport, executeReply, resultReport}
-use Rattle.message.specs.Messages.{gatewayCode, gatewayData, gatewayValid, installCode}
+use Rattle.message.specs.Messages.{DeviceMessage, query, announce, fragment, downloadReply, execute, resultReply, GatewayMessage, queryReply}
+use Rattle.message.specs.Messages.{announceReply, fragmentRequest, downloadReport, executeReply, resultReport, installCode, toDevice, toGateway}
 use Rattle.message.specs.Recognition.{codeHolds, recognition}
 
 -- the version text "V" and a figure
@@ -49,15 +48,15 @@ texts =
 -- the results that a message may carry, of all bytes
 abbrev pub results : List ((ℕ → Bool) × List ℕ)
 results =
-    ((λ (r : ℕ). deviceValid (fragment r 0 [])), 0x80 ∷ 0x81 ∷ []) ∷
-    ((λ (r : ℕ). deviceValid (fragment r 0 (0x41 ∷ []))), 0x00 ∷ []) ∷
-    ((λ (r : ℕ). deviceValid (downloadReply r)), 0x00 ∷ 0x80 ∷ []) ∷
-    ((λ (r : ℕ). deviceValid (resultReply r)), 0x00 ∷ 0x80 ∷ []) ∷
-    ((λ (r : ℕ). gatewayValid (queryReply r (text 1))), 0x00 ∷ []) ∷
-    ((λ (r : ℕ). gatewayValid (announceReply r)), 0x00 ∷ 0x01 ∷ 0x02 ∷ 0x03 ∷ 0x04 ∷ 0x05 ∷ 0x09 ∷ 0x7F ∷ []) ∷
-    ((λ (r : ℕ). gatewayValid (downloadReport r)), 0x00 ∷ 0x05 ∷ 0x06 ∷ 0x07 ∷ 0x08 ∷ []) ∷
-    ((λ (r : ℕ). gatewayValid (executeReply r)), 0x00 ∷ 0x01 ∷ 0x04 ∷ 0x05 ∷ 0x09 ∷ []) ∷
-    ((λ (r : ℕ). gatewayValid (resultReport r (text 1))), 0x00 ∷ 0x01 ∷ 0x04 ∷ 0x05 ∷ 0x09 ∷ 0x0A ∷ 0x7F ∷ []) ∷
+    ((λ (r : ℕ). toDevice .valid (fragment r 0 [])), 0x80 ∷ 0x81 ∷ []) ∷
+    ((λ (r : ℕ). toDevice .valid (fragment r 0 (0x41 ∷ []))), 0x00 ∷ []) ∷
+    ((λ (r : ℕ). toDevice .valid (downloadReply r)), 0x00 ∷ 0x80 ∷ []) ∷
+    ((λ (r : ℕ). toDevice .valid (resultReply r)), 0x00 ∷ 0x80 ∷ []) ∷
+    ((λ (r : ℕ). toGateway .valid (queryReply r (text 1))), 0x00 ∷ []) ∷
+    ((λ (r : ℕ). toGateway .valid (announceReply r)), 0x00 ∷ 0x01 ∷ 0x02 ∷ 0x03 ∷ 0x04 ∷ 0x05 ∷ 0x09 ∷ 0x7F ∷ []) ∷
+    ((λ (r : ℕ). toGateway .valid (downloadReport r)), 0x00 ∷ 0x05 ∷ 0x06 ∷ 0x07 ∷ 0x08 ∷ []) ∷
+    ((λ (r : ℕ). toGateway .valid (executeReply r)), 0x00 ∷ 0x01 ∷ 0x04 ∷ 0x05 ∷ 0x09 ∷ []) ∷
+    ((λ (r : ℕ). toGateway .valid (resultReport r (text 1))), 0x00 ∷ 0x01 ∷ 0x04 ∷ 0x05 ∷ 0x09 ∷ 0x0A ∷ 0x7F ∷ []) ∷
     (installCode, 0x00 ∷ 0x01 ∷ 0x04 ∷ 0x05 ∷ 0x09 ∷ 0x0A ∷ 0x7F ∷ []) ∷
     ((λ (c : ℕ). codeHolds (0xFF ∷ 0xFE ∷ 0x01 ∷ c ∷ [])), 19 ∷ 20 ∷ 21 ∷ 22 ∷ 23 ∷ 24 ∷ []) ∷  -- and the codes
     []
@@ -65,21 +64,21 @@ results =
 -- the other fields, each out of its range alone
 abbrev pub fields : List (Bool × Bool)
 fields =
-    (deviceValid query, true) ∷
-    (deviceValid execute, true) ∷
-    (deviceValid (announce (record { version = text 1; size = 32; total = 1; code = 0 })), true) ∷
-    (deviceValid (announce (record { version = noText; size = 32; total = 1; code = 0 })), false) ∷
-    (deviceValid (announce (record { version = text 1; size = 31; total = 1; code = 0 })), false) ∷
-    (deviceValid (announce (record { version = text 1; size = 32; total = 0; code = 0 })), false) ∷
-    (deviceValid (announce (record { version = text 1; size = 32; total = 1; code = 65536 })), false) ∷
-    (deviceValid (fragment 0x00 0 (replicate 500 0x41)), true) ∷
-    (deviceValid (fragment 0x00 0 (replicate 501 0x41)), false) ∷
-    (deviceValid (fragment 0x80 65536 []), false) ∷
-    (gatewayValid (queryReply 0x00 noText), false) ∷
-    (gatewayValid (fragmentRequest (text 1) 65535), true) ∷
-    (gatewayValid (fragmentRequest noText 0), false) ∷
-    (gatewayValid (fragmentRequest (text 1) 65536), false) ∷
-    (gatewayValid (resultReport 0x00 noText), false) ∷
+    (toDevice .valid query, true) ∷
+    (toDevice .valid execute, true) ∷
+    (toDevice .valid (announce (record { version = text 1; size = 32; total = 1; code = 0 })), true) ∷
+    (toDevice .valid (announce (record { version = noText; size = 32; total = 1; code = 0 })), false) ∷
+    (toDevice .valid (announce (record { version = text 1; size = 31; total = 1; code = 0 })), false) ∷
+    (toDevice .valid (announce (record { version = text 1; size = 32; total = 0; code = 0 })), false) ∷
+    (toDevice .valid (announce (record { version = text 1; size = 32; total = 1; code = 65536 })), false) ∷
+    (toDevice .valid (fragment 0x00 0 (replicate 500 0x41)), true) ∷
+    (toDevice .valid (fragment 0x00 0 (replicate 501 0x41)), false) ∷
+    (toDevice .valid (fragment 0x80 65536 []), false) ∷
+    (toGateway .valid (queryReply 0x00 noText), false) ∷
+    (toGateway .valid (fragmentRequest (text 1) 65535), true) ∷
+    (toGateway .valid (fragmentRequest noText 0), false) ∷
+    (toGateway .valid (fragmentRequest (text 1) 65536), false) ∷
+    (toGateway .valid (resultReport 0x00 noText), false) ∷
     []
 
 -- each message: its code, and then its data
@@ -132,6 +131,6 @@ pub record MessageCases : Type 0 where
   pub text-is : Agree (λ (r : List ℕ × Bool). goodVersion (r .0)) (λ r. r .1) texts
   pub result-is : Agree (λ (r : (ℕ → Bool) × List ℕ). allowed (r .0)) (λ r. r .1) results
   pub field-is : Agree (λ (r : Bool × Bool). r .0) (λ r. r .1) fields
-  pub device-data : Agree (λ (r : DeviceMessage × List ℕ). deviceCode (r .0) ∷ deviceData (r .0)) (λ r. r .1) sentToDevice
-  pub gateway-data : Agree (λ (r : GatewayMessage × List ℕ). gatewayCode (r .0) ∷ gatewayData (r .0)) (λ r. r .1) sentToGateway
+  pub device-data : Agree (λ (r : DeviceMessage × List ℕ). toDevice .code (r .0) ∷ toDevice .content (r .0)) (λ r. r .1) sentToDevice
+  pub gateway-data : Agree (λ (r : GatewayMessage × List ℕ). toGateway .code (r .0) ∷ toGateway .content (r .0)) (λ r. r .1) sentToGateway
   pub number-is : Agree (λ (r : Bool × Bool × List ℕ × ℕ). recognition (r .0) (r .1) (r .2)) (λ r. r .3) recognised

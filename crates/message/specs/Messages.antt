@@ -20,6 +20,16 @@ fieldsBytes f = f .version ++ (wordBytes (f .size) ++ (wordBytes (f .total) ++ w
 abbrev pub fieldsAt : List ℕ → ℕ → Fields
 fieldsAt xs at = record { version = part xs at 16; size = wordAt xs (at + 16); total = wordAt xs (at + 18); code = wordAt xs (at + 20) }
 
+-- ---- a row of the table: the message's code, its data, and whether its fields are those allowed
+
+pub record Row : Type 0 where
+  pub code : ℕ
+  pub content : List ℕ
+  pub valid : Bool
+
+abbrev row : (code : ℕ) (content : List ℕ) (valid : Bool) → Row
+row code content valid = record { code = code; content = content; valid = valid }
+
 -- ---- toward the device ("to head")
 
 pub data DeviceMessage : Type 0 where
@@ -30,36 +40,18 @@ pub data DeviceMessage : Type 0 where
   execute : DeviceMessage
   resultReply : (result : ℕ) → DeviceMessage
 
-unfoldable pub deviceCode : DeviceMessage → ℕ
-deviceCode query = 19
-deviceCode (announce f) = 20
-deviceCode (fragment result index bytes) = 21
-deviceCode (downloadReply result) = 22
-deviceCode execute = 23
-deviceCode (resultReply result) = 24
-
--- the data of a message
-unfoldable pub deviceData : DeviceMessage → List ℕ
-deviceData query = []
-deviceData (announce f) = fieldsBytes f
-deviceData (fragment result index bytes) = result ∷ (wordBytes index ++ bytes)
-deviceData (downloadReply result) = result ∷ []
-deviceData execute = []
-deviceData (resultReply result) = result ∷ []
-
 -- result 00 carries 1 to 500 data bytes; 80 and 81 carry none
 unfoldable pub fragmentOk : (result : ℕ) → List ℕ → Bool
 fragmentOk result bytes =
     pick (eqb result 0x00) (leb 1 (length bytes) && leb (length bytes) sizeMax) (oneOf result (0x80 ∷ 0x81 ∷ []) && eqb (length bytes) 0)
 
--- the fields that the table allows
-unfoldable pub deviceValid : DeviceMessage → Bool
-deviceValid query = true
-deviceValid (announce f) = goodVersion (f .version) && (sizeOk (f .size) && (totalOk (f .total) && isWord (f .code)))
-deviceValid (fragment result index bytes) = isWord index && fragmentOk result bytes
-deviceValid (downloadReply result) = oneOf result (0x00 ∷ 0x80 ∷ [])
-deviceValid execute = true
-deviceValid (resultReply result) = oneOf result (0x00 ∷ 0x80 ∷ [])
+unfoldable pub deviceRow : DeviceMessage → Row
+deviceRow query = row 19 [] true
+deviceRow (announce f) = row 20 (fieldsBytes f) (goodVersion (f .version) && (sizeOk (f .size) && (totalOk (f .total) && isWord (f .code))))
+deviceRow (fragment result index bytes) = row 21 (result ∷ (wordBytes index ++ bytes)) (isWord index && fragmentOk result bytes)
+deviceRow (downloadReply result) = row 22 (result ∷ []) (oneOf result (0x00 ∷ 0x80 ∷ []))
+deviceRow execute = row 23 [] true
+deviceRow (resultReply result) = row 24 (result ∷ []) (oneOf result (0x00 ∷ 0x80 ∷ []))
 
 -- the message that a code and data can only be: the fields at their places
 unfoldable pub deviceFields : (code : ℕ) → List ℕ → DeviceMessage
@@ -81,33 +73,17 @@ pub data GatewayMessage : Type 0 where
   executeReply : (result : ℕ) → GatewayMessage
   resultReport : (result : ℕ) (version : List ℕ) → GatewayMessage
 
-unfoldable pub gatewayCode : GatewayMessage → ℕ
-gatewayCode (queryReply result version) = 19
-gatewayCode (announceReply result) = 20
-gatewayCode (fragmentRequest version index) = 21
-gatewayCode (downloadReport result) = 22
-gatewayCode (executeReply result) = 23
-gatewayCode (resultReport result version) = 24
-
-unfoldable pub gatewayData : GatewayMessage → List ℕ
-gatewayData (queryReply result version) = result ∷ version
-gatewayData (announceReply result) = result ∷ []
-gatewayData (fragmentRequest version index) = version ++ wordBytes index
-gatewayData (downloadReport result) = result ∷ []
-gatewayData (executeReply result) = result ∷ []
-gatewayData (resultReport result version) = result ∷ version
-
 -- the codes with which an install may be reported (24)
 unfoldable pub installCode : ℕ → Bool
 installCode result = oneOf result (0x00 ∷ 0x01 ∷ 0x04 ∷ 0x05 ∷ 0x09 ∷ 0x0A ∷ 0x7F ∷ [])
 
-unfoldable pub gatewayValid : GatewayMessage → Bool
-gatewayValid (queryReply result version) = oneOf result (0x00 ∷ []) && goodVersion version
-gatewayValid (announceReply result) = oneOf result (0x00 ∷ 0x01 ∷ 0x02 ∷ 0x03 ∷ 0x04 ∷ 0x05 ∷ 0x09 ∷ 0x7F ∷ [])
-gatewayValid (fragmentRequest version index) = goodVersion version && isWord index
-gatewayValid (downloadReport result) = oneOf result (0x00 ∷ 0x05 ∷ 0x06 ∷ 0x07 ∷ 0x08 ∷ [])
-gatewayValid (executeReply result) = oneOf result (0x00 ∷ 0x01 ∷ 0x04 ∷ 0x05 ∷ 0x09 ∷ [])
-gatewayValid (resultReport result version) = installCode result && goodVersion version
+unfoldable pub gatewayRow : GatewayMessage → Row
+gatewayRow (queryReply result version) = row 19 (result ∷ version) (oneOf result (0x00 ∷ []) && goodVersion version)
+gatewayRow (announceReply result) = row 20 (result ∷ []) (oneOf result (0x00 ∷ 0x01 ∷ 0x02 ∷ 0x03 ∷ 0x04 ∷ 0x05 ∷ 0x09 ∷ 0x7F ∷ []))
+gatewayRow (fragmentRequest version index) = row 21 (version ++ wordBytes index) (goodVersion version && isWord index)
+gatewayRow (downloadReport result) = row 22 (result ∷ []) (oneOf result (0x00 ∷ 0x05 ∷ 0x06 ∷ 0x07 ∷ 0x08 ∷ []))
+gatewayRow (executeReply result) = row 23 (result ∷ []) (oneOf result (0x00 ∷ 0x01 ∷ 0x04 ∷ 0x05 ∷ 0x09 ∷ []))
+gatewayRow (resultReport result version) = row 24 (result ∷ version) (installCode result && goodVersion version)
 
 unfoldable pub gatewayFields : (code : ℕ) → List ℕ → GatewayMessage
 gatewayFields code d =
@@ -129,11 +105,16 @@ pub record Table : Type 1 where
   pub fields : ℕ → List ℕ → Message
   pub room : ℕ
 
+-- the column of messages with these rows
+abbrev column : (M : Type 0) → (M → Row) → (fields : ℕ → List ℕ → M) (room : ℕ) → Table
+column M rowOf fields room =
+    record { Message = M; code = λ m. rowOf m .code; content = λ m. rowOf m .content; valid = λ m. rowOf m .valid; fields = fields; room = room }
+
 abbrev pub toDevice : Table
-toDevice = record { Message = DeviceMessage; code = deviceCode; content = deviceData; valid = deviceValid; fields = deviceFields; room = gatewayRoom }
+toDevice = column DeviceMessage deviceRow deviceFields gatewayRoom
 
 abbrev pub toGateway : Table
-toGateway = record { Message = GatewayMessage; code = gatewayCode; content = gatewayData; valid = gatewayValid; fields = gatewayFields; room = deviceRoom }
+toGateway = column GatewayMessage gatewayRow gatewayFields deviceRoom
 
 -- a message, or the number of the refusal
 pub data Reading (M : Type 0) : Type 0 where

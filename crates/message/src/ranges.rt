@@ -5,7 +5,7 @@ use crate::ToGateway;
 use crate::version::good_version;
 ghost use mathlib.Core.Path.{_≡_};
 ghost use Rattle.message.specs.Limits.{sizeOk, totalOk};
-ghost use Rattle.message.specs.Messages.{DeviceMessage, GatewayMessage, deviceValid, gatewayValid, fragmentOk, installCode, toDevice, toGateway};
+ghost use Rattle.message.specs.Messages.{DeviceMessage, GatewayMessage, fragmentOk, installCode, toDevice, toGateway};
 ghost use Rattle.message.specs.Enums.{deviceMessage, gatewayMessage, validOf};
 
 // A fragment size.
@@ -32,21 +32,21 @@ pub fn install_code(result: u8) -> bool
 
 // The results of the other answers and reports toward the gateway.
 fn announce_reply_ok(result: u8) -> bool
-    ensures { λ r. ⌜ r ≡ gatewayValid (GatewayMessage.announceReply result) ⌝ }
+    ensures { λ r. ⌜ r ≡ toGateway .valid (GatewayMessage.announceReply result) ⌝ }
 {
     let codes = [0x00u8, 0x01, 0x02, 0x03, 0x04, 0x05, 0x09, 0x7F];
     basis::one_of(result, &codes)
 }
 
 fn download_report_ok(result: u8) -> bool
-    ensures { λ r. ⌜ r ≡ gatewayValid (GatewayMessage.downloadReport result) ⌝ }
+    ensures { λ r. ⌜ r ≡ toGateway .valid (GatewayMessage.downloadReport result) ⌝ }
 {
     let codes = [0x00u8, 0x05, 0x06, 0x07, 0x08];
     basis::one_of(result, &codes)
 }
 
 fn execute_reply_ok(result: u8) -> bool
-    ensures { λ r. ⌜ r ≡ gatewayValid (GatewayMessage.executeReply result) ⌝ }
+    ensures { λ r. ⌜ r ≡ toGateway .valid (GatewayMessage.executeReply result) ⌝ }
 {
     let codes = [0x00u8, 0x01, 0x04, 0x05, 0x09];
     basis::one_of(result, &codes)
@@ -54,7 +54,7 @@ fn execute_reply_ok(result: u8) -> bool
 
 // What the gateway answers to a report.
 fn report_reply_ok(result: u8) -> bool
-    ensures { λ r. ⌜ r ≡ deviceValid (DeviceMessage.downloadReply result) ⌝ }
+    ensures { λ r. ⌜ r ≡ toDevice .valid (DeviceMessage.downloadReply result) ⌝ }
 {
     let codes = [0x00u8, 0x80];
     basis::one_of(result, &codes)

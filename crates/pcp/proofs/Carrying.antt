@@ -10,8 +10,9 @@ use Rattle.basis.specs.Choice.{pick}
 use Rattle.basis.proofs.Choosing.{by-cases, pick-yes, and-left}
 use Rattle.basis.proofs.Lists.{length-part}
 use Rattle.message.specs.Version.{goodVersion}
-use Rattle.message.specs.Messages.{DeviceMessage, query, announce, fragment, downloadReply, execute, resultReply, deviceValid, GatewayMessage, queryReply}
-use Rattle.message.specs.Messages.{announceReply, fragmentRequest, downloadReport, executeReply, resultReport, Reading, found, refused, toDevice, toGateway}
+use Rattle.message.specs.Messages.{DeviceMessage, query, announce, fragment, downloadReply, execute, resultReply, GatewayMessage, queryReply}
+use Rattle.message.specs.Messages.{announceReply, fragmentRequest, downloadReport, executeReply, resultReport, Reading, found, refused, toDevice}
+use Rattle.message.specs.Messages.{toGateway, deviceRow}
 use Rattle.codec.specs.Codec.{readOf}
 use Rattle.codec.proofs.RoundTrip.{device-round-trip}
 use Rattle.device_record.specs.declared.Device.{Device}
@@ -44,7 +45,7 @@ unfolding textOf
 text-length v = by-cases (λ (l : List ℕ). length l ≡ 16) (λ _. length-part v 0 16) (λ _. refl)
 
 abbrev Valid : Reading DeviceMessage → Type 0
-Valid (found m) = deviceValid m ≡ true
+Valid (found m) = toDevice .valid m ≡ true
 Valid (refused n) = Unit {0}
 
 read-valid : (supported pcp : Bool) (bytes : List ℕ) → Valid (readOf toDevice supported pcp bytes)
@@ -64,7 +65,7 @@ module _ (d : Device) (image map reply : List ℕ) (s : DeviceTexts d) where
 
   handled-texts : (condition : ℕ) (r : Reading DeviceMessage) → Valid r → P (device.handle d image map reply condition r)
   unfolding P device.handle device.onQuery device.onAnnounce device.begin device.onFragment device.store device.onDownloadReply device.onExecute
-      device.onResultReply deviceValid
+      device.onResultReply deviceRow
   handled-texts condition (refused n) v = s
   handled-texts condition (found query) v = s
   handled-texts condition (found (announce f)) v =

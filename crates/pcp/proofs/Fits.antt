@@ -8,9 +8,9 @@ use lib.ListN.{length, length-append, length-take}
 use borrow.Author.Tests.{eqb-true}
 use Rattle.basis.proofs.Choosing.{by-cases, passed}
 use Rattle.message.specs.Limits.{sizeMax, deviceRoom, gatewayRoom}
-use Rattle.message.specs.Messages.{DeviceMessage, query, announce, fragment, downloadReply, execute, resultReply, deviceData, GatewayMessage, queryReply}
-use Rattle.message.specs.Messages.{announceReply, fragmentRequest, downloadReport, executeReply, resultReport, gatewayData, Table, Reading, found, refused}
-use Rattle.message.specs.Messages.{toDevice, toGateway}
+use Rattle.message.specs.Messages.{DeviceMessage, query, announce, fragment, downloadReply, execute, resultReply, GatewayMessage, queryReply}
+use Rattle.message.specs.Messages.{announceReply, fragmentRequest, downloadReport, executeReply, resultReport, Table, Reading, found, refused}
+use Rattle.message.specs.Messages.{toDevice, toGateway, deviceRow, gatewayRow}
 use Rattle.codec.specs.Codec.{bytesOf, readOf, said}
 use Rattle.codec.proofs.Frames.{length-frame}
 use Rattle.device_record.specs.declared.Device.{Device}
@@ -26,7 +26,7 @@ spoken-length t m = length-frame (t .code m) (t .content m)
 
 -- ---- the device
 
-spoken-short : (m : GatewayMessage) → length (gatewayData m) ≤ 18 → length (bytesOf toGateway m) ≤ deviceRoom
+spoken-short : (m : GatewayMessage) → length (toGateway .content m) ≤ 18 → length (bytesOf toGateway m) ≤ deviceRoom
 spoken-short m h = omega (arith, spoken-length toGateway m)
 
 module _ (d : Device) (running : length (d .running) ≡ 16) where
@@ -36,7 +36,7 @@ module _ (d : Device) (running : length (d .running) ≡ 16) where
   module _ (image map reply : List ℕ) where
     handled-short : (condition : ℕ) (r : Reading DeviceMessage) → Short (device.handle d image map reply condition r)
     unfolding Short device.handle device.onQuery device.onAnnounce device.begin device.onFragment device.store device.onDownloadReply device.onExecute
-        device.onResultReply gatewayData
+        device.onResultReply gatewayRow
     handled-short condition (refused n) = omega arith
     handled-short condition (found query) = spoken-short (queryReply 0x00 (d .running)) (omega arith)
     handled-short condition (found (announce f)) =
@@ -65,7 +65,7 @@ module _ (d : Device) (running : length (d .running) ≡ 16) where
     AskShort r = said toGateway r reply .length ≤ deviceRoom
 
     wanted-short : length (d .fields .version) ≡ 16 → AskShort (device.wanted d map)
-    unfolding AskShort device.wanted said gatewayData
+    unfolding AskShort device.wanted said gatewayRow
     wanted-short target =
         by-cases AskShort
         (λ _. by-cases AskShort (λ _. spoken-short (fragmentRequest (d .fields .version) _) (simp length-append (omega arith))) (λ _. omega arith))
@@ -79,7 +79,7 @@ module _ (d : Device) (running : length (d .running) ≡ 16) where
 
 -- ---- the gateway
 
-spoken-fits : (m : DeviceMessage) → length (deviceData m) ≤ 3 + sizeMax → length (bytesOf toDevice m) ≤ gatewayRoom
+spoken-fits : (m : DeviceMessage) → length (toDevice .content m) ≤ 3 + sizeMax → length (bytesOf toDevice m) ≤ gatewayRoom
 spoken-fits m h = omega (arith, spoken-length toDevice m)
 
 module _ (g : Gateway) (content reply : List ℕ) where
@@ -88,14 +88,14 @@ module _ (g : Gateway) (content reply : List ℕ) where
 
   fragment-fits : (version : List ℕ) (index : ℕ) → g .fields .size ≤ sizeMax
       → length (bytesOf toDevice (gateway.fragmentReply g content version index)) ≤ gatewayRoom
-  unfolding gateway.fragmentReply deviceData fragmentOf
+  unfolding gateway.fragmentReply deviceRow fragmentOf
   fragment-fits version index h =
       spoken-fits (gateway.fragmentReply g content version index)
-      (by-cases (λ (bytes : List ℕ). length (deviceData (fragment 0x00 index bytes)) ≤ 3 + sizeMax) (λ _. simp length-take (omega arith)) (λ _. omega arith))
+      (by-cases (λ (bytes : List ℕ). length (toDevice .content (fragment 0x00 index bytes)) ≤ 3 + sizeMax) (λ _. simp length-take (omega arith)) (λ _. omega arith))
 
   handled-fits : g .fields .size ≤ sizeMax → (r : Reading GatewayMessage) → Fits (gateway.handle g content reply r)
   unfolding Fits gateway.handle gateway.onQueryReply gateway.onAnnounceReply gateway.onFragmentRequest gateway.onDownloadReport gateway.onExecuteReply
-      gateway.onResultReport deviceData
+      gateway.onResultReport deviceRow
   handled-fits h (refused n) = omega arith
   handled-fits h (found (queryReply result version)) = by-cases Fits (λ _. omega arith) (λ _. omega arith)
   handled-fits h (found (announceReply result)) = by-cases Fits (λ _. omega arith) (λ _. omega arith)
@@ -120,7 +120,7 @@ module _ (g : Gateway) (content reply : List ℕ) where
   AskFits r = said toDevice r reply .length ≤ gatewayRoom
 
   pub gateway-ask-fits : length (g .fields .version) ≡ 16 → gateway.nextMessageOf g content reply .length ≤ gatewayRoom
-  unfolding AskFits gateway.nextMessageOf gateway.wanted said deviceData
+  unfolding AskFits gateway.nextMessageOf gateway.wanted said deviceRow
   gateway-ask-fits target =
       by-cases AskFits
       (λ _. by-cases AskFits (λ _. spoken-fits query (omega arith))

@@ -12,7 +12,7 @@ use Rattle.basis.specs.Bytes.{over}
 use Rattle.basis.proofs.Choosing.{pick-no}
 use Rattle.basis.proofs.Lists.{take-over}
 use Rattle.message.specs.Limits.{deviceRoom, gatewayRoom}
-use Rattle.message.specs.Messages.{DeviceMessage, deviceValid, GatewayMessage, gatewayValid, Table, Reading, found, toDevice, toGateway}
+use Rattle.message.specs.Messages.{DeviceMessage, GatewayMessage, Table, Reading, found, toDevice, toGateway}
 use Rattle.codec.specs.Codec.{Sent, bytesOf, said}
 use Rattle.codec.proofs.Frames.{length-frame}
 use Rattle.codec.proofs.RoundTrip.{device-round-trip, gateway-round-trip}
@@ -123,7 +123,7 @@ module _ (s : Setting) where
       device-asked = record { device-is = here .device-is; gateway-is = here .gateway-is; sound = here .sound }
 
       -- it is given a message
-      module _ (m : DeviceMessage) (v : deviceValid m ≡ true) where
+      module _ (m : DeviceMessage) (v : toDevice .valid m ≡ true) where
         device-hears : deviceAnswer e true true 0 (bytesOf toDevice m) (s .deviceReply w) ≡ deviceTakes e m (s .deviceReply w)
         unfolding device-rules.receiveOf refusal pick conditionOk oneOf
         device-hears = rw (device-roomy, good, fits, device-round-trip .written-read m v)
@@ -162,7 +162,7 @@ module _ (s : Setting) where
       gateway-asked = record { device-is = here .device-is; gateway-is = here .gateway-is; sound = here .sound }
 
       -- it is given a message
-      module _ (m : GatewayMessage) (v : gatewayValid m ≡ true) where
+      module _ (m : GatewayMessage) (v : toGateway .valid m ≡ true) where
         gateway-hears : gateway-rules.receiveOf (w .gateway) (s .content) (s .gatewayReply w) true true (bytesOf toGateway m)
             ≡ gatewayTakes phase m (s .gatewayReply w)
         unfolding gateway-rules.receiveOf refusal pick
@@ -190,9 +190,9 @@ module _ (s : Setting) where
   module _ (w : World) (e : DeviceEnd) (phase : ℕ) (here : At w e (gatewayIn s phase)) (known : leb phase gateway.ended ≡ true) where
     -- the device says m, the gateway replies n and is h, the device takes n and is d
     pub device-exchange : (m : GatewayMessage) (n : DeviceMessage) {h : Gateway} {d : DeviceEnd}
-        → device-rules.wanted (e .device) (e .map) ≡ found m → gatewayValid m ≡ true
+        → device-rules.wanted (e .device) (e .map) ≡ found m → toGateway .valid m ≡ true
         → ((reply : List ℕ) → gatewayTakes phase m reply ≡ gateway-rules.replied (gatewayIn s phase) (s .content) reply h n)
-        → deviceValid n ≡ true
+        → toDevice .valid n ≡ true
         → ((reply : List ℕ) → left (deviceTakes e n reply) ≡ d)
         → Spoke w d h
     unfolding deviceAsked answeredByGateway arriveAtDevice said
@@ -209,10 +209,10 @@ module _ (s : Setting) where
 
     -- the gateway says n, the device replies m and is d, the gateway takes m and is h
     pub gateway-exchange : (n : DeviceMessage) (m : GatewayMessage) {d : DeviceEnd} {h : Gateway}
-        → gateway-rules.wanted (gatewayIn s phase) ≡ found n → deviceValid n ≡ true
+        → gateway-rules.wanted (gatewayIn s phase) ≡ found n → toDevice .valid n ≡ true
         → ((reply : List ℕ) → left (deviceTakes e n reply) ≡ d)
         → ((reply : List ℕ) → aired (deviceTakes e n reply .length) (deviceTakes e n reply .reply) ≡ bytesOf toGateway m ∷ [])
-        → gatewayValid m ≡ true
+        → toGateway .valid m ≡ true
         → ((reply : List ℕ) → gatewayTakes phase m reply .gateway ≡ h)
         → At (asksGateway w) d h
     unfolding gatewayAsked answeredByDevice arriveAtGateway

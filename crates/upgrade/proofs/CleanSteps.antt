@@ -11,8 +11,9 @@ use Rattle.basis.specs.Bytes.{same, patched}
 use Rattle.basis.proofs.Choosing.{by-cases, and-both}
 use Rattle.basis.proofs.Lists.{same-refl}
 use Rattle.message.specs.Limits.{sizeMax, isWord}
-use Rattle.message.specs.Messages.{deviceValid, announce, fragment, downloadReply, execute, resultReply, fragmentOk, gatewayValid, announceReply}
-use Rattle.message.specs.Messages.{fragmentRequest, downloadReport, executeReply, resultReport, installCode, found, refused, toGateway}
+use Rattle.message.specs.Messages.{announce, fragment, downloadReply, execute, resultReply, fragmentOk, announceReply, fragmentRequest}
+use Rattle.message.specs.Messages.{downloadReport, executeReply, resultReport, installCode, found, refused, toGateway, deviceRow, gatewayRow}
+use Rattle.message.specs.Messages.{toDevice}
 use Rattle.codec.specs.Codec.{said}
 use Rattle.message.specs.declared.Fields.{Fields}
 use Rattle.device_record.specs.declared.Device.{Device}
@@ -52,7 +53,7 @@ module _ (s : Setting) where
 
   pub announced : (w : World) → At w (s .first) (gatewayIn s gateway.offer)
       → At (asksGateway s w) (loadingAt s 0 (s .first .image) (cleared (device.mapBytes (total s)) (s .first .map))) (gatewayIn s gateway.serve)
-  unfolding device-rules.begin gateway-rules.wanted gateway-rules.handle gateway-rules.onAnnounceReply deviceValid gatewayValid oneOf pick
+  unfolding device-rules.begin gateway-rules.wanted gateway-rules.handle gateway-rules.onAnnounceReply deviceRow gatewayRow oneOf pick
   announced w here =
       gateway-exchange s w (s .first) gateway.offer here refl (announce (fields s)) (announceReply 0x00)
       refl (and-both (s .version-good) (and-both (s .size-ok) (and-both (total-ok s) (s .code-word)))) (λ reply. ap left (taken-up reply))
@@ -102,15 +103,15 @@ module _ (s : Setting) where
     unfolding device-rules.handle device-rules.onFragment pick
     stored reply = rw tested
 
-    fragment-valid : deviceValid (fragment 0x00 k bytes) ≡ true
-    unfolding deviceValid fragmentOk isWord pick
+    fragment-valid : toDevice .valid (fragment 0x00 k bytes) ≡ true
+    unfolding deviceRow fragmentOk isWord pick
     fragment-valid =
         and-both (lt-ltb k 65536 (omega (arith, total-fits s)))
         (and-both (le-leb 1 (length bytes) ranged) (le-leb (length bytes) sizeMax (omega (arith, stretch-fits (s .content) (s .size) k, size-most s))))
 
     module _ (w : World) (here : At w loading (gatewayIn s gateway.serve)) where
       fetched : {d : DeviceEnd} → ((reply : List ℕ) → left (storing reply) ≡ d) → Spoke s w d (gatewayIn s gateway.serve)
-      unfolding gatewayValid isWord
+      unfolding gatewayRow isWord
       fetched t =
           device-exchange s w loading gateway.serve here refl (fragmentRequest (s .version) k) (fragment 0x00 k bytes) requests
           (and-both (s .version-good) (lt-ltb k 65536 (omega (arith, total-fits s)))) served fragment-valid (λ reply. ap left (stored reply) ∙ t reply)
@@ -140,8 +141,8 @@ module _ (s : Setting) where
 
     pub reported : At w (endIn s device.loaded stored last image map) (gatewayIn s gateway.serve)
         → Spoke s w (endIn s device.acked stored last image map) (gatewayIn s gateway.run)
-    unfolding device-rules.wanted device-rules.handle device-rules.onDownloadReply gateway-rules.handle gateway-rules.onDownloadReport deviceValid
-        gatewayValid oneOf pick
+    unfolding device-rules.wanted device-rules.handle device-rules.onDownloadReply gateway-rules.handle gateway-rules.onDownloadReport deviceRow
+        gatewayRow oneOf pick
     reported here =
         device-exchange s w (endIn s device.loaded stored last image map) gateway.serve here refl (downloadReport 0x00) (downloadReply 0x00) refl refl
         (λ _. refl) refl (λ _. refl)
@@ -149,7 +150,7 @@ module _ (s : Setting) where
     pub executed : At w (endIn s device.acked stored last image map) (gatewayIn s gateway.run)
         → At (asksGateway s w) (endIn s device.installing stored last image map) (gatewayIn s gateway.run)
     unfolding gateway-rules.wanted gateway-rules.handle gateway-rules.onExecuteReply device-rules.handle device-rules.onExecute
-        device-rules.executeResult deviceValid gatewayValid oneOf pick
+        device-rules.executeResult deviceRow gatewayRow oneOf pick
     executed here =
         gateway-exchange s w (endIn s device.acked stored last image map) gateway.run here refl execute (executeReply 0x00) refl refl (λ _. refl)
         (aired-message toGateway (executeReply 0x00)) refl (λ _. refl)
@@ -165,7 +166,7 @@ module _ (s : Setting) where
     pub succeeded : At w (updatedIn s device.reporting stored last image map) (gatewayIn s gateway.run)
         → Spoke s w (updatedIn s device.idle stored last image map) (gatewayIn s gateway.ended)
     unfolding device-rules.wanted device-rules.handle device-rules.onResultReply gateway-rules.handle gateway-rules.onResultReport
-        decisions.installEnding deviceValid gatewayValid installCode oneOf pick
+        decisions.installEnding deviceRow gatewayRow installCode oneOf pick
     succeeded here =
         device-exchange s w (updatedIn s device.reporting stored last image map) gateway.run here refl (resultReport 0x00 (s .version)) (resultReply 0x00)
         refl (s .version-good) (λ _. rw (same-refl (s .version))) refl (λ _. refl)

@@ -13,7 +13,7 @@ use Rattle.basis.specs.Choice.{pick}
 use Rattle.basis.proofs.Choosing.{and-left}
 use Rattle.checksum.specs.Check.{checkOf}
 use Rattle.message.specs.declared.Fields.{Fields}
-use Rattle.message.specs.Messages.{execute, executeReply, gatewayData, found, toDevice, toGateway}
+use Rattle.message.specs.Messages.{execute, executeReply, found, toDevice, toGateway, gatewayRow}
 use Rattle.codec.specs.Codec.{sealed, frame, bytesOf}
 use Rattle.device_record.specs.declared.Device.{Device}
 use Rattle.device_record.specs.Record.{idle, loading, loaded, acked, failed}
@@ -49,7 +49,7 @@ abbrev Full : Device → Type 0
 Full d = (d .phase ≡ idle → ⊥) × (d .phase ≡ loading → ⊥) × (d .phase ≡ failed → ⊥)
 
 reply-zero : (result : ℕ) → spoken (executeReply result) ≡ spoken (executeReply 0x00) → result ≡ 0
-unfolding bytesOf frame sealed gatewayData
+unfolding bytesOf frame sealed gatewayRow
 reply-zero result e = ap (λ (l : List (List ℕ)). getD (getD l 0 []) 8 0) e
 
 -- a size in range is not 0

@@ -10,8 +10,7 @@ use Rattle.checksum.specs.Check.{doubled, entryOf, step, register, checkOf, zer
 use Rattle.message.specs.Limits.{sizeOk, totalOk, isWord}
 use Rattle.message.specs.Version.{printable, front, allZero, goodVersion}
 use Rattle.message.specs.Recognition.{startHolds, versionByteHolds, codeHolds, checkHolds, lengthHolds, recognition}
-use Rattle.message.specs.Messages.{execute, resultReport, deviceCode, deviceData, fragmentOk, deviceValid, deviceFields, gatewayCode, gatewayData, installCode}
-use Rattle.message.specs.Messages.{gatewayValid, gatewayFields}
+use Rattle.message.specs.Messages.{execute, resultReport, fragmentOk, deviceFields, installCode, gatewayFields, deviceRow, gatewayRow}
 use Rattle.codec.specs.Codec.{sealed, frame, bytesOf, readOf, writeOf, said}
 use Rattle.bitmap.specs.Bitmap.{marked, mark, cleared, missingFrom, lowestMissing}
 use Rattle.device_record.specs.Record as device-record
@@ -38,8 +37,8 @@ heard = List·Memᴰ·head refl
 
 pub witnesses : Witnesses
 unfolding pick refusal oneOf part same over patched doubled entryOf step register checkOf zeroed messageCheck sizeOk totalOk isWord printable front
-    allZero goodVersion startHolds versionByteHolds codeHolds checkHolds lengthHolds recognition deviceCode deviceData fragmentOk deviceValid
-    deviceFields gatewayCode gatewayData installCode gatewayValid gatewayFields sealed frame bytesOf readOf writeOf said marked mark cleared
+    allZero goodVersion startHolds versionByteHolds codeHolds checkHolds lengthHolds recognition deviceRow fragmentOk
+    deviceFields gatewayRow installCode gatewayFields sealed frame bytesOf readOf writeOf said marked mark cleared
     missingFrom lowestMissing device-record.holding device-record.conditionOk device-record.newOf device-record.downloadOk
     device-record.recordOk device-record.mapBytes device-record.roomOk device.begin device.store device.onQuery device.onAnnounce
     device.onFragment device.onDownloadReply device.onExecute device.onResultReply device.handle device.receiveOf device.wanted

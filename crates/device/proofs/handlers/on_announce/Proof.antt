@@ -2,7 +2,7 @@
 use borrow.Author.Needs.{needs}
 use mathlib.Core.Path.{_∙_, refl}
 use Rattle.basis.specs.Choice.{oneOf}
-use Rattle.message.specs.Messages.{gatewayValid}
+use Rattle.message.specs.Messages.{gatewayRow}
 use Rattle.device.proofs.Readings.{unexpected, unrefused, leaves, of-announce}
 use Rattle.device.proofs.Replying.{announce-allowed}
 use Rattle.device.proofs.Announced.{afresh, unchanged}
@@ -40,7 +40,7 @@ begun-requires : tie.Need-begun-requires
 begun-requires c κs = search needs
 
 replied-requires : tie.Need-replied-requires
-unfolding gatewayValid oneOf
+unfolding gatewayRow oneOf
 replied-requires c κs = (
   c .before .before .before .before .before .before .before .before .before .before .before .before .before .before .before
       .before .before .pre .room,

@@ -1,7 +1,7 @@
 -- `message::ranges::device_valid` meets its contract: a path for each case of the enum, and the table's test of its fields; a refusal is not valid.
 -- Assumes nothing.
 use Rattle.message.proofs.Allowed.{announce-allowed, fragment-allowed}
-use Rattle.message.specs.Messages.{deviceValid}
+use Rattle.message.specs.Messages.{deviceRow}
 use native.Mathlib.Omega.{arith}
 use borrow.Author.Needs.{needs}
 use Rattle.message.proofs.ranges.device_valid.Statement.{statement}
@@ -50,7 +50,7 @@ returns : tie.Need-returns
 returns c = search needs
 
 returns-2 : tie.Need-returns-2
-unfolding deviceValid
+unfolding deviceRow
 returns-2 c = rw (c .enum-told2 .given .1)
 
 returns-3 : tie.Need-returns-3
@@ -64,11 +64,11 @@ returns-5 : tie.Need-returns-5
 returns-5 c = rw (c .before .before .message3 .given .1) (c .report-reply-ok .ensures)
 
 returns-6 : tie.Need-returns-6
-unfolding deviceValid
+unfolding deviceRow
 returns-6 c = rw (c .enum-told3 .given .1)
 
 returns-7 : tie.Need-returns-7
-unfolding deviceValid
+unfolding deviceRow
 returns-7 c = rw (c .before .before .message4 .given .1) (c .report-reply-ok2 .ensures)
 
 pub device-valid-spec : {M : Type 1} → statement M

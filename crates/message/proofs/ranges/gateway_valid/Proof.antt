@@ -1,7 +1,7 @@
 -- `message::ranges::gateway_valid` meets its contract: a path for each case of the enum, and the table's test of its fields; a refusal is not
 -- valid. Assumes nothing.
 use Rattle.message.proofs.Allowed.{query-allowed, request-allowed}
-use Rattle.message.specs.Messages.{gatewayValid}
+use Rattle.message.specs.Messages.{gatewayRow}
 use native.Mathlib.Omega.{arith}
 use borrow.Author.Needs.{needs}
 use Rattle.message.proofs.ranges.gateway_valid.Statement.{statement}
@@ -69,7 +69,7 @@ returns-6 : tie.Need-returns-6
 returns-6 c = rw (c .before .before .message4 .given .1) (c .execute-reply-ok .ensures)
 
 returns-7 : tie.Need-returns-7
-unfolding gatewayValid
+unfolding gatewayRow
 returns-7 c = rw (c .before .before .before .message5 .given .1, c .before .install-code .ensures, c .good-version3 .ensures)
 
 pub gateway-valid-spec : {M : Type 1} → statement M
