@@ -8,3 +8,4 @@ pub mod Laying
 pub mod Reading
 pub mod Writing
 pub mod Speaking
+pub mod Leading

@@ -11,14 +11,14 @@ use Rattle.basis.specs.Numbers.{noUse}
 use Rattle.basis.proofs.Choosing.{pick-yes, pick-no}
 use Rattle.message.specs.declared.ToGateway
 use Rattle.message.specs.declared.ToGateway.{ToGateway}
-use Rattle.message.proofs.ToGateway.{parts}
+use Rattle.message.proofs.ToGateway.{parts, enum}
 use Rattle.message.specs.Messages.{fragment, downloadReply, resultReply}
 use Rattle.gateway_record.specs.declared.Gateway.{Gateway}
 use Rattle.gateway_record.specs.Record.{ask, offer, serve, run, notAccepted, downloadFailed, notExecuted, inPhase, endedWith}
 use Rattle.gateway_decisions.specs.Decisions.{afterQuery, fragmentResult, installEnding}
 use Rattle.gateway.specs.Rules.{refuse, moved, replied, onQueryReply, onAnnounceReply, onFragmentRequest, onDownloadReport}
 use Rattle.gateway.specs.Rules.{onExecuteReply, onResultReport}
-use Rattle.gateway.proofs.Readings.{one-field}
+use Rattle.codec.proofs.Leading.{same-fields}
 use Rattle.gateway.proofs.Saying.{fragment-denied, fragment-given}
 
 module _ (g : Gateway) (content reply : List ℕ) where
@@ -67,7 +67,7 @@ module _ (g : Gateway) (content reply : List ℕ) (m : ToGateway) (v : ℕ) wher
       → moved g content reply h ≡ onAnnounceReply g content reply result
   unfolding onAnnounceReply
   announce-here h good bad e p q r result x y =
-      let s : result ≡ v = ap (λ (w : ValuesAt parts 2). w .0) (one-field 2 m (result, tt) (v, tt) x y) in
+      let s : result ≡ v = ap (λ (w : ValuesAt parts 2). w .0) (same-fields enum 2 m (result, tt) (v, tt) x y) in
       rw (s, p, q, r) (sym (pick-yes _ _ _ (eq-eqb _ _ e)))
 
   pub execute-here : (h bad : Gateway) → g .phase ≡ run → h ≡ pick (eqb v 0x00) g bad → bad ≡ endedWith notExecuted g
@@ -75,7 +75,7 @@ module _ (g : Gateway) (content reply : List ℕ) (m : ToGateway) (v : ℕ) wher
       → moved g content reply h ≡ onExecuteReply g content reply result
   unfolding onExecuteReply
   execute-here h bad e p q result x y =
-      let s : result ≡ v = ap (λ (w : ValuesAt parts 5). w .0) (one-field 5 m (result, tt) (v, tt) x y) in
+      let s : result ≡ v = ap (λ (w : ValuesAt parts 5). w .0) (same-fields enum 5 m (result, tt) (v, tt) x y) in
       rw (s, p, q) (sym (pick-yes _ _ _ (eq-eqb _ _ e)))
 
   pub download-served : (h good bad : Gateway) → g .phase ≡ serve → h ≡ pick (eqb v 0x00) good bad → good ≡ inPhase run g
@@ -83,7 +83,7 @@ module _ (g : Gateway) (content reply : List ℕ) (m : ToGateway) (v : ℕ) wher
       → replied g content reply h (downloadReply 0x00) ≡ onDownloadReport g content reply result
   unfolding onDownloadReport
   download-served h good bad e p q r result x y =
-      let s : result ≡ v = ap (λ (w : ValuesAt parts 4). w .0) (one-field 4 m (result, tt) (v, tt) x y) in
+      let s : result ≡ v = ap (λ (w : ValuesAt parts 4). w .0) (same-fields enum 4 m (result, tt) (v, tt) x y) in
       rw (s, p, q, r) (sym (pick-yes _ _ _ (eq-eqb _ _ e)))
 
   pub result-here : (version : List ℕ) (ending : ℕ) (h : Gateway) → g .phase ≡ run → ending ≡ installEnding (g .fields) v version
@@ -91,7 +91,7 @@ module _ (g : Gateway) (content reply : List ℕ) (m : ToGateway) (v : ℕ) wher
       → replied g content reply h (resultReply 0x00) ≡ onResultReport g content reply result version
   unfolding onResultReport
   result-here version ending h e p q result x y =
-      let s : result ≡ v = ap (λ (w : ValuesAt parts 6). w .0) (one-field 6 m (result, tt) (v, tt) x y) in
+      let s : result ≡ v = ap (λ (w : ValuesAt parts 6). w .0) (same-fields enum 6 m (result, tt) (v, tt) x y) in
       rw (s, q, p) (sym (pick-yes _ _ _ (eq-eqb _ _ e)))
 
   pub fragment-none : (version : List ℕ) (result : ℕ) → result ≡ fragmentResult (g .phase) (g .fields) version v → (result ≡ 0x00 → ⊥)
@@ -99,7 +99,7 @@ module _ (g : Gateway) (content reply : List ℕ) (m : ToGateway) (v : ℕ) wher
       → replied g content reply g (fragment result v []) ≡ onFragmentRequest g content reply version index
   unfolding onFragmentRequest
   fragment-none version result e n index x y =
-      let s : v ≡ index = ap (λ (w : ValuesAt parts 3). w .0) (one-field 3 m (v, tt) (index, tt) y x) in
+      let s : v ≡ index = ap (λ (w : ValuesAt parts 3). w .0) (same-fields enum 3 m (v, tt) (index, tt) y x) in
       ap (replied g content reply g) (fragment-denied g content version v result e n) ∙ rw s
 
   pub fragment-some : (version : List ℕ) (result : ℕ) (part : List ℕ) → result ≡ fragmentResult (g .phase) (g .fields) version v → result ≡ 0x00
@@ -108,5 +108,5 @@ module _ (g : Gateway) (content reply : List ℕ) (m : ToGateway) (v : ℕ) wher
       → replied g content reply g (fragment result v part) ≡ onFragmentRequest g content reply version index
   unfolding onFragmentRequest
   fragment-some version result part e z p index x y =
-      let s : v ≡ index = ap (λ (w : ValuesAt parts 3). w .0) (one-field 3 m (v, tt) (index, tt) y x) in
+      let s : v ≡ index = ap (λ (w : ValuesAt parts 3). w .0) (same-fields enum 3 m (v, tt) (index, tt) y x) in
       ap (replied g content reply g) (fragment-given g content version v result part e z p) ∙ rw s

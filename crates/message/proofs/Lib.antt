@@ -3,4 +3,3 @@ pub mod Allowed
 pub mod Tables
 pub mod FieldBytes
 pub mod Cases
-pub mod Variants

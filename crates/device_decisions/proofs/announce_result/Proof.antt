@@ -1,4 +1,4 @@
--- `device_decisions::announce_result` meets its contract. Assumes nothing.
+-- `device_decisions::announce_result` meets its contract: its tests are the rule's in their order. Assumes nothing.
 use borrow.Author.Needs.{needs}
 use Rattle.device_decisions.specs.Decisions.{announceResult}
 use Rattle.device_decisions.proofs.announce_result.Statement.{statement}

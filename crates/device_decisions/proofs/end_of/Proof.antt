@@ -1,4 +1,4 @@
--- `device_decisions::end_of` meets its contract. Assumes nothing.
+-- `device_decisions::end_of` meets its contract: the product and the sum stay in range. Assumes nothing.
 use borrow.Author.Needs.{needs}
 use Prim.Native.Nat.{_-_}
 use native.Mathlib.Omega.{arith}

@@ -1,4 +1,4 @@
--- `device_decisions::fragment_number` meets its contract. Assumes nothing.
+-- `device_decisions::fragment_number` meets its contract: 10, 11 and 12 by tests that are the rule's in their order. Assumes nothing.
 use borrow.Author.Needs.{needs}
 use Rattle.basis.specs.Choice.{refusal}
 use Rattle.device_decisions.specs.Decisions.{fragmentNumber}

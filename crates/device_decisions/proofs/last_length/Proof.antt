@@ -1,4 +1,4 @@
--- `device_decisions::last_length` meets its contract. Assumes nothing.
+-- `device_decisions::last_length` meets its contract: the last fragment is told by its index. Assumes nothing.
 use borrow.Author.Tests.{eq-eqb, ne-eqb}
 use borrow.Author.Needs.{needs}
 use mathlib.Core.Path.{sym}

@@ -1,4 +1,4 @@
--- `device_decisions::passes` meets its contract. Assumes nothing.
+-- `device_decisions::passes` meets its contract: no code, or the check of the bytes. Assumes nothing.
 use borrow.Author.Tests.{eq-eqb, ne-eqb}
 use borrow.Author.Needs.{needs}
 use Rattle.device_decisions.specs.Decisions.{passes}

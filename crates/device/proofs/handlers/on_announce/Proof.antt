@@ -3,7 +3,9 @@ use borrow.Author.Needs.{needs}
 use mathlib.Core.Path.{_∙_, refl}
 use Rattle.basis.specs.Choice.{oneOf}
 use Rattle.message.specs.Messages.{gatewayRow}
-use Rattle.device.proofs.Readings.{unexpected, unrefused, leaves, of-announce}
+use Rattle.message.proofs.ToDevice.{enum}
+use Rattle.codec.proofs.Leading.{unexpected, no-other}
+use Rattle.device.proofs.Readings.{leaves, of-announce}
 use Rattle.device.proofs.Replying.{announce-allowed}
 use Rattle.device.proofs.Announced.{afresh, unchanged}
 use Rattle.device.proofs.handlers.on_announce.Statement.{statement}
@@ -20,7 +22,7 @@ refused-requires c κs = search needs
 
 returns : tie.Need-returns
 returns c = (
-  λ s t k e. unexpected _ _ e tt (c .before .before .match .keys2),
+  λ s t k e. unexpected enum _ _ e tt (c .before .before .match .keys2),
   λ n e. leaves _ _ _ _ (c .before .number-of .ensures) (c .refused .ensures) n e _ _ _,
 )
 
@@ -63,7 +65,7 @@ returns-2 c =
           (r .before .before .before .before .resumes .ensures) _ _ _ _
           (r .before .before .before .if1 .taken) (r .before .map-bytes .ensures) (r .clear .ensures)
           (c .before .before .before .before .begun .ensures) (c .before .before .replied .ensures _ _ _ refl)),
-      λ n e. unrefused _ 2 n e tt (t .before .before .before .before .match .keys1),
+      λ n e. no-other enum _ _ 2 e tt (t .before .before .before .before .match .keys1),
     )
 
 replied-requires-2 : tie.Need-replied-requires-2
@@ -87,7 +89,7 @@ returns-3 c =
       of-announce _ _ _ _ _ (t .message .given .1)
           (c .before .before .replied2 .ensures _ _ _ refl
           ∙ unchanged _ _ _ _ _ _ _ _ (r .before .before .announce-result .ensures) (r .before .resumes .ensures) (r .if1 .left)),
-      λ n e. unrefused _ 2 n e tt (t .before .match .keys1),
+      λ n e. no-other enum _ _ 2 e tt (t .before .match .keys1),
     )
 
 pub on-announce-spec : {M : Type 1} → statement M

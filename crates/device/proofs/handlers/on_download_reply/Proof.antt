@@ -3,8 +3,10 @@ use borrow.Author.Tests.{eq-eqb, ne-eqb}
 use borrow.Author.Needs.{needs}
 use mathlib.Core.Path.{sym, _∙_}
 use Rattle.basis.proofs.Choosing.{pick-yes, pick-no}
+use Rattle.message.proofs.ToDevice.{enum}
+use Rattle.codec.proofs.Leading.{unexpected, no-other}
 use Rattle.device.specs.Rules.{onDownloadReply}
-use Rattle.device.proofs.Readings.{unexpected, unrefused, leaves, of-download}
+use Rattle.device.proofs.Readings.{leaves, of-download}
 use Rattle.device.proofs.handlers.on_download_reply.Statement.{statement}
 use Rattle.device.proofs.handlers.on_download_reply.Tie as tie
 
@@ -19,7 +21,7 @@ refused-requires c κs = search needs
 
 returns : tie.Need-returns
 returns c = (
-  λ r e i m p. unexpected _ _ e tt (c .before .before .match .keys2),
+  λ r e i m p. unexpected enum _ _ e tt (c .before .before .match .keys2),
   leaves _ _ _ _ (c .before .number-of .ensures) (c .refused .ensures),
 )
 
@@ -38,7 +40,7 @@ returns-2 c = (
   of-download _ _ _ (c .before .before .before .before .before .before .message .given .1)
       (λ i m p. c .moved .ensures i m p ∙ rw (c .before .in-phase .ensures, c .before .before .pick .ensures)
       (sym (pick-yes _ _ _ (eq-eqb _ _ (c .before .before .before .if1 .taken))))),
-  λ n e i m p. unrefused _ 4 n e tt (c .before .before .before .before .before .before .before .match .keys1),
+  λ n e i m p. no-other enum _ _ 4 e tt (c .before .before .before .before .before .before .before .match .keys1),
 )
 
 in-phase-requires-2 : tie.Need-in-phase-requires-2
@@ -53,7 +55,7 @@ returns-3 c = (
   of-download _ _ _ (c .before .before .before .before .before .before .before .message .given .1)
       (λ i m p. c .moved2 .ensures i m p ∙ rw (c .before .in-phase2 .ensures)
       (sym (pick-no _ _ _ (ne-eqb _ _ (c .before .before .before .before .if1 .left)) ∙ pick-yes _ _ _ (eq-eqb _ _ (c .before .before .if2 .taken))))),
-  λ n e i m p. unrefused _ 4 n e tt (c .before .before .before .before .before .before .before .before .match .keys1),
+  λ n e i m p. no-other enum _ _ 4 e tt (c .before .before .before .before .before .before .before .before .match .keys1),
 )
 
 refused-requires-2 : tie.Need-refused-requires-2
@@ -65,7 +67,7 @@ returns-4 c = (
   of-download _ _ _ (c .before .before .before .before .before .before .message .given .1)
       (λ i m p. c .refused2 .ensures i m p
       ∙ sym (pick-no _ _ _ (ne-eqb _ _ (c .before .before .before .if1 .left)) ∙ pick-no _ _ _ (ne-eqb _ _ (c .before .if2 .left)))),
-  λ n e i m p. unrefused _ 4 n e tt (c .before .before .before .before .before .before .before .match .keys1),
+  λ n e i m p. no-other enum _ _ 4 e tt (c .before .before .before .before .before .before .before .match .keys1),
 )
 
 pub on-download-reply-spec : {M : Type 1} → statement M

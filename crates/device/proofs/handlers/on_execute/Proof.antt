@@ -1,8 +1,10 @@
 -- `device::handlers::on_execute` meets its contract: the phase chosen is the record chosen. Assumes nothing.
 use borrow.Author.Needs.{needs}
 use mathlib.Core.Path.{_∙_, refl}
+use Rattle.message.proofs.ToDevice.{enum}
+use Rattle.codec.proofs.Leading.{unexpected, no-other}
 use Rattle.device.specs.Rules.{onExecute}
-use Rattle.device.proofs.Readings.{unexpected, unrefused, leaves}
+use Rattle.device.proofs.Readings.{leaves}
 use Rattle.device.proofs.Replying.{execute-allowed}
 use Rattle.device.proofs.Executed.{phase-chosen}
 use Rattle.device.proofs.handlers.on_execute.Statement.{statement}
@@ -19,7 +21,7 @@ refused-requires c κs = search needs
 
 returns : tie.Need-returns
 returns c = (
-  λ e i m. unexpected _ _ e tt (c .before .before .match .keys2),
+  λ e i m. unexpected enum _ _ e tt (c .before .before .match .keys2),
   λ n e i m. leaves _ _ _ _ (c .before .number-of .ensures) (c .refused .ensures) n e i m _,
 )
 
@@ -51,7 +53,7 @@ returns-2 c = (
         phase-chosen,
         c .before .before .before .before .before .before .before .execute-result .ensures,
       ),
-  λ n e i m. unrefused _ 5 n e tt (c .before .before .before .before .before .before .before .before .before .match .keys1),
+  λ n e i m. no-other enum _ _ 5 e tt (c .before .before .before .before .before .before .before .before .before .match .keys1),
 )
 
 pub on-execute-spec : {M : Type 1} → statement M

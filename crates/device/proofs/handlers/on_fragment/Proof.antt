@@ -2,8 +2,10 @@
 use borrow.Author.Needs.{needs}
 use mathlib.Core.Path.{sym, _∙_}
 use Rattle.device_decisions.proofs.Tested.{fragment-passed}
+use Rattle.message.proofs.ToDevice.{enum}
+use Rattle.codec.proofs.Leading.{unexpected, no-other}
 use Rattle.device.proofs.Fragments.{not-loading, stopped, unknown, refused-first, stores}
-use Rattle.device.proofs.Readings.{unexpected, unrefused, leaves, of-fragment}
+use Rattle.device.proofs.Readings.{leaves, of-fragment}
 use Rattle.device.proofs.handlers.on_fragment.Statement.{statement}
 use Rattle.device.proofs.handlers.on_fragment.Tie as tie
 
@@ -18,7 +20,7 @@ refused-requires c κs = search needs
 
 returns : tie.Need-returns
 returns c = (
-  λ r i e p. unexpected _ _ e tt (c .before .before .match .keys2),
+  λ r i e p. unexpected enum _ _ e tt (c .before .before .match .keys2),
   λ n e p. leaves _ _ _ _ (c .before .number-of .ensures) (c .refused .ensures) n e _ _ p,
 )
 
@@ -29,7 +31,7 @@ returns-2 : tie.Need-returns-2
 returns-2 c = (
   of-fragment _ _ _ _ (c .before .before .before .before .message .given .1)
       (λ p. c .refused2 .ensures _ _ p ∙ sym (not-loading _ _ _ p _ _ _ (c .before .if1 .taken))),
-  λ n e p. unrefused _ 3 n e tt (c .before .before .before .before .before .match .keys1),
+  λ n e p. no-other enum _ _ 3 e tt (c .before .before .before .before .before .match .keys1),
 )
 
 in-phase-requires : tie.Need-in-phase-requires
@@ -43,7 +45,7 @@ returns-3 c = (
   of-fragment _ _ _ _ (c .before .before .before .before .before .before .message .given .1)
       (λ p. c .moved .ensures _ _ p ∙ rw (c .before .in-phase .ensures)
       (sym (stopped _ _ _ p _ _ _ (c .before .before .before .if1 .left) (c .before .before .if2 .taken)))),
-  λ n e p. unrefused _ 3 n e tt (c .before .before .before .before .before .before .before .match .keys1),
+  λ n e p. no-other enum _ _ 3 e tt (c .before .before .before .before .before .before .before .match .keys1),
 )
 
 moved-requires-2 : tie.Need-moved-requires-2
@@ -54,7 +56,7 @@ returns-4 c = (
   of-fragment _ _ _ _ (c .before .before .before .before .before .before .message .given .1)
       (λ p. c .moved2 .ensures _ _ p ∙ sym (unknown _ _ _ p _ _ _ (c .before .before .before .if1 .left)
       (c .before .before .if2 .left) (c .before .if3 .taken))),
-  λ n e p. unrefused _ 3 n e tt (c .before .before .before .before .before .before .before .match .keys1),
+  λ n e p. no-other enum _ _ 3 e tt (c .before .before .before .before .before .before .before .match .keys1),
 )
 
 fragment-number-requires : tie.Need-fragment-number-requires
@@ -74,7 +76,7 @@ returns-5 c =
       of-fragment _ _ _ _ (t .message .given .1)
           (λ p. c .refused3 .ensures _ _ p ∙ sym (refused-first _ _ _ p _ _ (s .args .content .now)
           (r .before .before .if1 .left) (r .before .if2 .left) (r .if3 .left) _ (c .before .before .fragment-number .ensures) (c .before .if4 .taken))),
-      λ n e p. unrefused _ 3 n e tt (t .before .match .keys1),
+      λ n e p. no-other enum _ _ 3 e tt (t .before .match .keys1),
     )
 
 store-requires : tie.Need-store-requires
@@ -99,7 +101,7 @@ returns-6 c =
       of-fragment _ _ _ _ (u .message .given .1)
           (λ p. c .before .before .before .before .store .ensures p ∙ sym (stores _ _ _ p _ _ (s .args .content .now)
           (t .before .before .if1 .left) (t .before .if2 .left) (t .if3 .left) _ (r .before .fragment-number .ensures) (r .if4 .left))),
-      λ n e p. unrefused _ 3 n e tt (u .before .match .keys1),
+      λ n e p. no-other enum _ _ 3 e tt (u .before .match .keys1),
     )
 
 pub on-fragment-spec : {M : Type 1} → statement M

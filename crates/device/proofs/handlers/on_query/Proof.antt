@@ -2,8 +2,10 @@
 use borrow.Author.Needs.{needs}
 use mathlib.Core.Path.{refl}
 use Rattle.device_record.proofs.Records.{record-kept}
+use Rattle.message.proofs.ToDevice.{enum}
+use Rattle.codec.proofs.Leading.{unexpected, no-other}
 use Rattle.device.specs.Rules.{onQuery}
-use Rattle.device.proofs.Readings.{unexpected, unrefused, leaves}
+use Rattle.device.proofs.Readings.{leaves}
 use Rattle.device.proofs.Replying.{query-allowed}
 use Rattle.device.proofs.handlers.on_query.Statement.{statement}
 use Rattle.device.proofs.handlers.on_query.Tie as tie
@@ -19,7 +21,7 @@ refused-requires c κs = search needs
 
 returns : tie.Need-returns
 returns c = (
-  λ e i m. unexpected _ _ e tt (c .before .before .match .keys2),
+  λ e i m. unexpected enum _ _ e tt (c .before .before .match .keys2),
   λ n e i m. leaves _ _ _ _ (c .before .number-of .ensures) (c .refused .ensures) n e i m _,
 )
 
@@ -35,7 +37,7 @@ returns-2 : tie.Need-returns-2
 unfolding onQuery
 returns-2 c = (
   λ e i m. c .before .before .replied .ensures i m _ refl,
-  λ n e i m. unrefused _ 1 n e tt (c .before .before .before .before .before .before .match .keys1),
+  λ n e i m. no-other enum _ _ 1 e tt (c .before .before .before .before .before .before .match .keys1),
 )
 
 pub on-query-spec : {M : Type 1} → statement M

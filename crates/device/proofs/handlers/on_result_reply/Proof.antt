@@ -3,8 +3,10 @@ use borrow.Author.Tests.{eq-eqb, ne-eqb}
 use borrow.Author.Needs.{needs}
 use mathlib.Core.Path.{sym, _∙_}
 use Rattle.basis.proofs.Choosing.{pick-yes, pick-no}
+use Rattle.message.proofs.ToDevice.{enum}
+use Rattle.codec.proofs.Leading.{unexpected, no-other}
 use Rattle.device.specs.Rules.{onResultReply}
-use Rattle.device.proofs.Readings.{unexpected, unrefused, leaves}
+use Rattle.device.proofs.Readings.{leaves}
 use Rattle.device.proofs.handlers.on_result_reply.Statement.{statement}
 use Rattle.device.proofs.handlers.on_result_reply.Tie as tie
 
@@ -19,7 +21,7 @@ refused-requires c κs = search needs
 
 returns : tie.Need-returns
 returns c = (
-  λ r e i m p. unexpected _ _ e tt (c .before .before .match .keys2),
+  λ r e i m p. unexpected enum _ _ e tt (c .before .before .match .keys2),
   leaves _ _ _ _ (c .before .number-of .ensures) (c .refused .ensures),
 )
 
@@ -36,14 +38,14 @@ returns-2 : tie.Need-returns-2
 unfolding onResultReply
 returns-2 c = (
   λ r e i m p. c .moved .ensures i m p ∙ rw (c .before .in-phase .ensures) (sym (pick-yes _ _ _ (eq-eqb _ _ (c .before .before .if1 .taken)))),
-  λ n e i m p. unrefused _ 6 n e tt (c .before .before .before .before .before .match .keys1),
+  λ n e i m p. no-other enum _ _ 6 e tt (c .before .before .before .before .before .match .keys1),
 )
 
 returns-3 : tie.Need-returns-3
 unfolding onResultReply
 returns-3 c = (
   λ r e i m p. c .refused2 .ensures i m p ∙ sym (pick-no _ _ _ (ne-eqb _ _ (c .before .if1 .left))),
-  λ n e i m p. unrefused _ 6 n e tt (c .before .before .before .before .match .keys1),
+  λ n e i m p. no-other enum _ _ 6 e tt (c .before .before .before .before .match .keys1),
 )
 
 pub on-result-reply-spec : {M : Type 1} → statement M

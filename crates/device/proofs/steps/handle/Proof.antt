@@ -45,8 +45,8 @@ returns c =
     let r = c .before .before in
     let t = r .before .before in
     let s = t .before .before .before .before .before .before in
-    leads _ _ _ _ _ _ _ _ 1 (s .args .reading) _ _ (t .before .byte-at .ensures) (t .match .keys1) (s .pre .1)
-    (λ v e. r .on-query .ensures .0 e _ _) (λ n e. r .on-query .ensures .1 n e _ _)
+    leads _ _ _ _ _ _ _ _ (s .args .reading) _ 1 _ (t .before .byte-at .ensures) (t .match .keys1) (s .pre .1)
+    (λ v e. r .on-query .ensures .0 e _ _) (λ v e. r .on-query .ensures .1 _ e _ _)
 
 same-length-2 : tie.Need-same-length-2
 same-length-2 c = search needs
@@ -63,8 +63,8 @@ returns-2 c =
     let r = c .before .before .before .before in
     let t = r .before .before .before .before .before in
     let s = t .before .before .before .before .before .before in
-    leads _ _ _ _ _ _ _ _ 2 (s .args .reading) _ _ (t .before .byte-at .ensures) (t .match .keys2) (s .pre .1)
-    (λ v e. rw (← r .before .before .before .before .version-at .ensures) (r .on-announce .ensures .0 _ _ _ e)) (λ n e. r .on-announce .ensures .1 n e)
+    leads _ _ _ _ _ _ _ _ (s .args .reading) _ 2 _ (t .before .byte-at .ensures) (t .match .keys2) (s .pre .1)
+    (λ v e. rw (← r .before .before .before .before .version-at .ensures) (r .on-announce .ensures .0 _ _ _ e)) (λ v e. r .on-announce .ensures .1 _ e)
 
 same-length-5 : tie.Need-same-length-5
 same-length-5 c = search needs
@@ -78,16 +78,16 @@ returns-3 c =
     let r = c .before .before .before .before in
     let t = r .before .before .before .before in
     let s = t .before .before .before .before .before .before in
-    leads _ _ _ _ _ _ _ _ 3 (s .args .reading) _ _ (t .before .byte-at .ensures) (t .match .keys3) (s .pre .1)
-    (λ v e. rw (← r .before .before .before .fragment-data .ensures) (r .on-fragment .ensures .0 _ _ e _)) (λ n e. r .on-fragment .ensures .1 n e _)
+    leads _ _ _ _ _ _ _ _ (s .args .reading) _ 3 _ (t .before .byte-at .ensures) (t .match .keys3) (s .pre .1)
+    (λ v e. rw (← r .before .before .before .fragment-data .ensures) (r .on-fragment .ensures .0 _ _ e _)) (λ v e. r .on-fragment .ensures .1 _ e _)
 
 returns-4 : tie.Need-returns-4
 unfolding handle
 returns-4 c =
     let t = c .before in
     let s = t .before .before .before .before .before .before in
-    leads _ _ _ _ _ _ _ _ 4 (s .args .reading) _ _ (t .before .byte-at .ensures) (t .match .keys4) (s .pre .1)
-    (λ v e. c .on-download-reply .ensures .0 _ e _ _ _) (λ n e. c .on-download-reply .ensures .1 n e _ _ _)
+    leads _ _ _ _ _ _ _ _ (s .args .reading) _ 4 _ (t .before .byte-at .ensures) (t .match .keys4) (s .pre .1)
+    (λ v e. c .on-download-reply .ensures .0 _ e _ _ _) (λ v e. c .on-download-reply .ensures .1 _ e _ _ _)
 
 same-length-7 : tie.Need-same-length-7
 same-length-7 c = search needs
@@ -98,8 +98,8 @@ returns-5 c =
     let r = c .before .before in
     let t = r .before .before in
     let s = t .before .before .before .before .before .before in
-    leads _ _ _ _ _ _ _ _ 5 (s .args .reading) _ _ (t .before .byte-at .ensures) (t .match .keys5) (s .pre .1)
-    (λ v e. r .on-execute .ensures .0 e _ _) (λ n e. r .on-execute .ensures .1 n e _ _)
+    leads _ _ _ _ _ _ _ _ (s .args .reading) _ 5 _ (t .before .byte-at .ensures) (t .match .keys5) (s .pre .1)
+    (λ v e. r .on-execute .ensures .0 e _ _) (λ v e. r .on-execute .ensures .1 _ e _ _)
 
 returns-6 : tie.Need-returns-6
 unfolding handle
@@ -107,7 +107,7 @@ returns-6 c =
     let s = c .before .before .before .before .before .before .before in
     let rest = c .before .match .rest in
     leads-last _ _ _ _ _ _ _ _ (s .args .reading) _ _ (c .before .before .byte-at .ensures) (rest .0 .0 .0 .0 .1) (rest .0 .0 .0 .1) (rest .0 .0 .1)
-    (rest .0 .1) (rest .1) (s .pre .1) (λ v e. c .on-result-reply .ensures .0 _ e _ _ _) (λ n e. c .on-result-reply .ensures .1 n e _ _ _)
+    (rest .0 .1) (rest .1) (s .pre .1) (λ v e. c .on-result-reply .ensures .0 _ e _ _ _) (λ v e. c .on-result-reply .ensures .1 _ e _ _ _)
 
 pub handle-spec : {M : Type 1} → statement M
 handle-spec =

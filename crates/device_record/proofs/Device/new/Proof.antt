@@ -1,4 +1,4 @@
--- `device_record::Device::new` meets its contract. Assumes nothing.
+-- `device_record::Device::new` meets its contract: by the version text. Assumes nothing.
 use borrow.Author.Needs.{needs}
 use mathlib.Core.Path.{_∙_, sym}
 use Rattle.basis.proofs.Choosing.{pick-yes, pick-no}

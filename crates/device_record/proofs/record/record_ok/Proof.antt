@@ -1,4 +1,4 @@
--- `device_record::record::record_ok` meets its contract. Assumes nothing.
+-- `device_record::record::record_ok` meets its contract: each test is a part of the record's rule. Assumes nothing.
 use borrow.Author.Needs.{needs}
 use Rattle.basis.proofs.Choosing.{pick-or}
 use Rattle.device_record.specs.Record.{recordOk}

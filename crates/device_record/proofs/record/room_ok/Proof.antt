@@ -1,4 +1,4 @@
--- `device_record::record::room_ok` meets its contract. Assumes nothing.
+-- `device_record::record::room_ok` meets its contract: lengths are asked for in phases 1 to 3 alone. Assumes nothing.
 use borrow.Author.Needs.{needs}
 use mathlib.Core.Path.{sym}
 use Rattle.basis.proofs.Choosing.{pick-unless}

@@ -4,7 +4,9 @@ use mathlib.Core.Path.{_∙_, refl}
 use Rattle.basis.specs.Choice.{oneOf}
 use Rattle.message.specs.Messages.{deviceRow}
 use Rattle.gateway.proofs.Handling.{download-served, download-running, download-elsewhere}
-use Rattle.gateway.proofs.Readings.{unexpected, unrefused, leaves}
+use Rattle.message.proofs.ToGateway.{enum}
+use Rattle.codec.proofs.Leading.{unexpected, no-other}
+use Rattle.gateway.proofs.Readings.{leaves}
 use Rattle.gateway.proofs.handlers.on_download_report.Statement.{statement}
 use Rattle.gateway.proofs.handlers.on_download_report.Tie as tie
 
@@ -19,7 +21,7 @@ refused-requires c κs = search needs
 
 returns : tie.Need-returns
 returns c = (
-  λ r e k. unexpected _ _ e tt (c .before .before .match .keys2),
+  λ r e k. unexpected enum _ _ e tt (c .before .before .match .keys2),
   λ n e k. leaves _ _ _ _ (c .before .number-of .ensures) (c .refused .ensures) n e k _,
 )
 
@@ -49,7 +51,7 @@ returns-2 c = (
       (c .before .before .before .before .before .by-result .ensures) (c .before .before .before .before .before .before .before .in-phase .ensures)
       (c .before .before .before .before .before .before .ended-with .ensures) r e
       (c .before .before .before .before .before .before .before .before .before .before .before .message .given .1),
-  λ n e k. unrefused _ 4 n e tt (c .before .before .before .before .before .before .before .before .before .before .before .before .match .keys1),
+  λ n e k. no-other enum _ _ 4 e tt (c .before .before .before .before .before .before .before .before .before .before .before .before .match .keys1),
 )
 
 slice-aggregate-replied-2 : tie.Need-slice-aggregate-replied-2
@@ -66,7 +68,7 @@ returns-3 : tie.Need-returns-3
 returns-3 c = (
   λ r e k. c .before .before .replied2 .ensures _ refl ∙ download-running _ k _ r
       (c .before .before .before .before .before .before .before .if1 .left) (c .before .before .before .before .before .if2 .taken),
-  λ n e k. unrefused _ 4 n e tt (c .before .before .before .before .before .before .before .before .before .before .before .match .keys1),
+  λ n e k. no-other enum _ _ 4 e tt (c .before .before .before .before .before .before .before .before .before .before .before .match .keys1),
 )
 
 slice-aggregate-replied-3 : tie.Need-slice-aggregate-replied-3
@@ -83,7 +85,7 @@ returns-4 : tie.Need-returns-4
 returns-4 c = (
   λ r e k. c .before .before .replied3 .ensures _ refl ∙ download-elsewhere _ k _ r
       (c .before .before .before .before .before .before .before .if1 .left) (c .before .before .before .before .before .if2 .left),
-  λ n e k. unrefused _ 4 n e tt (c .before .before .before .before .before .before .before .before .before .before .before .match .keys1),
+  λ n e k. no-other enum _ _ 4 e tt (c .before .before .before .before .before .before .before .before .before .before .before .match .keys1),
 )
 
 pub on-download-report-spec : {M : Type 1} → statement M

@@ -2,7 +2,9 @@
 use borrow.Author.Needs.{needs}
 use mathlib.Core.Path.{_∙_, refl}
 use Rattle.gateway.proofs.Handling.{fragment-none, fragment-some}
-use Rattle.gateway.proofs.Readings.{unexpected, unrefused, leaves}
+use Rattle.message.proofs.ToGateway.{enum}
+use Rattle.codec.proofs.Leading.{unexpected, no-other}
+use Rattle.gateway.proofs.Readings.{leaves}
 use Rattle.gateway.proofs.Saying.{denied-allowed, given-allowed}
 use Rattle.gateway.proofs.handlers.on_fragment_request.Statement.{statement}
 use Rattle.gateway.proofs.handlers.on_fragment_request.Tie as tie
@@ -18,7 +20,7 @@ refused-requires c κs = search needs
 
 returns : tie.Need-returns
 returns c = (
-  λ i e. unexpected _ _ e tt (c .before .before .match .keys2),
+  λ i e. unexpected enum _ _ e tt (c .before .before .match .keys2),
   λ n e. leaves _ _ _ _ (c .before .number-of .ensures) (c .refused .ensures) n e (c .before .before .before .before .before .args .content .now) _,
 )
 
@@ -46,7 +48,7 @@ returns-2 c = (
       (c .before .before .before .before .before .before .before .before .before .before .before .before .before .args .content .now) _ _ _ _ _
       (c .before .before .before .before .before .before .fragment-result .ensures) (c .before .before .before .before .before .if1 .taken)
       i e (c .before .before .before .before .before .before .before .before .before .message .given .1),
-  λ n e. unrefused _ 3 n e tt (c .before .before .before .before .before .before .before .before .before .before .match .keys1),
+  λ n e. no-other enum _ _ 3 e tt (c .before .before .before .before .before .before .before .before .before .before .match .keys1),
 )
 
 fragment-requires : tie.Need-fragment-requires
@@ -72,7 +74,7 @@ returns-3 c = (
       (c .before .before .before .before .before .before .fragment-result .ensures) (c .before .before .before .before .before .if1 .left)
       (c .before .before .before .before .fragment .ensures .bytes) i e
       (c .before .before .before .before .before .before .before .before .before .message .given .1),
-  λ n e. unrefused _ 3 n e tt (c .before .before .before .before .before .before .before .before .before .before .match .keys1),
+  λ n e. no-other enum _ _ 3 e tt (c .before .before .before .before .before .before .before .before .before .before .match .keys1),
 )
 
 pub on-fragment-request-spec : {M : Type 1} → statement M

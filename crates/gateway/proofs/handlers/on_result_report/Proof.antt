@@ -4,7 +4,9 @@ use mathlib.Core.Path.{_∙_, refl}
 use Rattle.basis.specs.Choice.{oneOf}
 use Rattle.message.specs.Messages.{deviceRow}
 use Rattle.gateway.proofs.Handling.{result-elsewhere, result-here}
-use Rattle.gateway.proofs.Readings.{unexpected, unrefused, leaves}
+use Rattle.message.proofs.ToGateway.{enum}
+use Rattle.codec.proofs.Leading.{unexpected, no-other}
+use Rattle.gateway.proofs.Readings.{leaves}
 use Rattle.gateway.proofs.handlers.on_result_report.Statement.{statement}
 use Rattle.gateway.proofs.handlers.on_result_report.Tie as tie
 
@@ -19,7 +21,7 @@ refused-requires c κs = search needs
 
 returns : tie.Need-returns
 returns c = (
-  λ r e k. unexpected _ _ e tt (c .before .before .match .keys2),
+  λ r e k. unexpected enum _ _ e tt (c .before .before .match .keys2),
   λ n e k. leaves _ _ _ _ (c .before .number-of .ensures) (c .refused .ensures) n e k _,
 )
 
@@ -36,7 +38,7 @@ same-length c = search needs
 returns-2 : tie.Need-returns-2
 returns-2 c = (
   λ r e k. c .before .before .replied .ensures _ refl ∙ result-elsewhere _ k _ r _ (c .before .before .before .before .before .if1 .taken),
-  λ n e k. unrefused _ 6 n e tt (c .before .before .before .before .before .before .before .before .before .match .keys1),
+  λ n e k. no-other enum _ _ 6 e tt (c .before .before .before .before .before .before .before .before .before .match .keys1),
 )
 
 install-ending-requires : tie.Need-install-ending-requires
@@ -61,7 +63,7 @@ returns-3 c = (
       (c .before .before .before .before .before .before .before .before .if1 .left)
       (c .before .before .before .before .before .before .install-ending .ensures) (c .before .before .before .before .before .ended-with .ensures)
       r e (c .before .before .before .before .before .before .before .before .before .before .before .message .given .1),
-  λ n e k. unrefused _ 6 n e tt (c .before .before .before .before .before .before .before .before .before .before .before .before .match .keys1),
+  λ n e k. no-other enum _ _ 6 e tt (c .before .before .before .before .before .before .before .before .before .before .before .before .match .keys1),
 )
 
 pub on-result-report-spec : {M : Type 1} → statement M

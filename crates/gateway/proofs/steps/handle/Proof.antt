@@ -1,8 +1,7 @@
 -- `gateway::steps::handle` meets its contract: a handler for each code, whose promises are the rule. Assumes nothing.
 use borrow.Author.Needs.{needs}
-use native.Mathlib.Omega.{arith}
 use Rattle.gateway.specs.Rules.{handle}
-use Rattle.gateway.proofs.Readings.{leads, last-left}
+use Rattle.gateway.proofs.Readings.{leads, leads-last}
 use Rattle.gateway.proofs.steps.handle.Statement.{statement}
 use Rattle.gateway.proofs.steps.handle.Tie as tie
 
@@ -28,19 +27,15 @@ returns : tie.Need-returns
 unfolding handle
 returns c =
     let s = c .before .before .before .before in
-    leads _ (s .args .content .now) (s .args .reply .now) _ _ 1 (s .args .reading) _ (λ t e l m. omega (arith, c .before .match .keys1, e))
-    (s .pre .1)
-    (λ v e. c .on-query-reply .ensures .0 (v .0) e (s .args .content .now) (s .args .reply .now)) (λ n e. c .on-query-reply .ensures .1 n e
-    (s .args .content .now) (s .args .reply .now))
+    leads _ (s .args .content .now) (s .args .reply .now) _ _ (s .args .reading) _ 1 (c .before .match .keys1) (s .pre .1)
+    (λ v e. c .on-query-reply .ensures .0 (v .0) e (s .args .content .now) (s .args .reply .now)) (λ v e. c .on-query-reply .ensures .1 (v .0) e (s .args .content .now) (s .args .reply .now))
 
 returns-2 : tie.Need-returns-2
 unfolding handle
 returns-2 c =
     let s = c .before .before .before .before in
-    leads _ (s .args .content .now) (s .args .reply .now) _ _ 2 (s .args .reading) _ (λ t e l m. omega (arith, c .before .match .keys2, e))
-    (s .pre .1)
-    (λ v e. c .on-announce-reply .ensures .0 (v .0) e (s .args .content .now) (s .args .reply .now)) (λ n e. c .on-announce-reply .ensures .1 n e
-    (s .args .content .now) (s .args .reply .now))
+    leads _ (s .args .content .now) (s .args .reply .now) _ _ (s .args .reading) _ 2 (c .before .match .keys2) (s .pre .1)
+    (λ v e. c .on-announce-reply .ensures .0 (v .0) e (s .args .content .now) (s .args .reply .now)) (λ v e. c .on-announce-reply .ensures .1 (v .0) e (s .args .content .now) (s .args .reply .now))
 
 same-length : tie.Need-same-length
 same-length c = search needs
@@ -49,9 +44,8 @@ returns-3 : tie.Need-returns-3
 unfolding handle
 returns-3 c =
     let s = c .before .before .before .before .before .before .before in
-    leads _ (s .args .content .now) (s .args .reply .now) _ _ 3 (s .args .reading) _ (λ t e l m. omega
-    (arith, c .before .before .before .before .match .keys3, e)) (s .pre .1)
-    (λ v e. c .before .before .on-fragment-request .ensures .0 (v .0) e) (λ n e. c .before .before .on-fragment-request .ensures .1 n e)
+    leads _ (s .args .content .now) (s .args .reply .now) _ _ (s .args .reading) _ 3 (c .before .before .before .before .match .keys3) (s .pre .1)
+    (λ v e. c .before .before .on-fragment-request .ensures .0 (v .0) e) (λ v e. c .before .before .on-fragment-request .ensures .1 (v .0) e)
 
 same-length-2 : tie.Need-same-length-2
 same-length-2 c = search needs
@@ -60,19 +54,15 @@ returns-4 : tie.Need-returns-4
 unfolding handle
 returns-4 c =
     let s = c .before .before .before .before .before .before .before in
-    leads _ (s .args .content .now) (s .args .reply .now) _ _ 4 (s .args .reading) _ (λ t e l m. omega
-    (arith, c .before .before .before .before .match .keys4, e)) (s .pre .1)
-    (λ v e. c .before .before .on-download-report .ensures .0 (v .0) e (s .args .content .now))
-    (λ n e. c .before .before .on-download-report .ensures .1 n e (s .args .content .now))
+    leads _ (s .args .content .now) (s .args .reply .now) _ _ (s .args .reading) _ 4 (c .before .before .before .before .match .keys4) (s .pre .1)
+    (λ v e. c .before .before .on-download-report .ensures .0 (v .0) e (s .args .content .now)) (λ v e. c .before .before .on-download-report .ensures .1 (v .0) e (s .args .content .now))
 
 returns-5 : tie.Need-returns-5
 unfolding handle
 returns-5 c =
     let s = c .before .before .before .before in
-    leads _ (s .args .content .now) (s .args .reply .now) _ _ 5 (s .args .reading) _ (λ t e l m. omega (arith, c .before .match .keys5, e))
-    (s .pre .1)
-    (λ v e. c .on-execute-reply .ensures .0 (v .0) e (s .args .content .now) (s .args .reply .now)) (λ n e. c .on-execute-reply .ensures .1 n e
-    (s .args .content .now) (s .args .reply .now))
+    leads _ (s .args .content .now) (s .args .reply .now) _ _ (s .args .reading) _ 5 (c .before .match .keys5) (s .pre .1)
+    (λ v e. c .on-execute-reply .ensures .0 (v .0) e (s .args .content .now) (s .args .reply .now)) (λ v e. c .on-execute-reply .ensures .1 (v .0) e (s .args .content .now) (s .args .reply .now))
 
 same-length-3 : tie.Need-same-length-3
 same-length-3 c = search needs
@@ -82,10 +72,8 @@ unfolding handle
 returns-6 c =
     let s = c .before .before .before .before .before .before .before in
     let r = c .before .before .before .before .match .rest in
-    leads _ (s .args .content .now) (s .args .reply .now) _ _ 6 (s .args .reading) _
-    (last-left _ (r .0 .0 .0 .0 .1) (r .0 .0 .0 .1) (r .0 .0 .1) (r .0 .1) (r .1)) (s .pre .1)
-    (λ v e. c .before .before .on-result-report .ensures .0 (v .0) e (s .args .content .now))
-    (λ n e. c .before .before .on-result-report .ensures .1 n e (s .args .content .now))
+    leads-last _ (s .args .content .now) (s .args .reply .now) _ _ (s .args .reading) _ (r .0 .0 .0 .0 .1) (r .0 .0 .0 .1) (r .0 .0 .1) (r .0 .1) (r .1) (s .pre .1)
+    (λ v e. c .before .before .on-result-report .ensures .0 (v .0) e (s .args .content .now)) (λ v e. c .before .before .on-result-report .ensures .1 (v .0) e (s .args .content .now))
 
 pub handle-spec : {M : Type 1} → statement M
 handle-spec =
