@@ -1,7 +1,7 @@
 -- What the ends say: a message that the table allows is written where there is room for it, and the code that stands in the bytes is that of the
 -- message read. One law for either direction. Assumes nothing.
 use Prim.Native.Nat.{ℕ, _≤_}
-use mathlib.Core.Path.{_≡_, refl, sym, _∙_}
+use mathlib.Core.Path.{_≡_, refl, sym}
 use mathlib.Core.Bool.{Bool}
 use mathlib.Core.List.{List, [], _∷_}
 use lib.ListN.{length, getD}

@@ -34,7 +34,8 @@ unfolding pick refusal oneOf part same over patched doubled entryOf step registe
     device.nextMessageOf device.installFinishedOf device.announceResult device.sameFields device.resumes device.fragmentLength device.fragmentNumber
     device.passes
     device.completion device.executeResult gateway-record.totalOf gateway-record.lengthOk gateway-record.fragmentOf gateway-record.startOf
-    gateway-record.recordOk decisions.afterQuery decisions.serving decisions.fragmentResult decisions.installEnding gateway.fragmentReply gateway.onQueryReply gateway.onAnnounceReply
+    gateway-record.recordOk decisions.afterQuery decisions.serving decisions.fragmentResult decisions.installEnding gateway.fragmentReply
+    gateway.onQueryReply gateway.onAnnounceReply
     gateway.onFragmentRequest gateway.onDownloadReport gateway.onExecuteReply gateway.onResultReport gateway.handle gateway.receiveOf
     gateway.wanted gateway.nextMessageOf deviceDoes gatewayDoes heldBy heldNext heldAfter deviceNewOf deviceReceiveOf gatewayStartOf
     gatewayReceiveOf textOf kept deviceBytes deviceAt gatewayBytes gatewayAt deviceHostDoes gatewayHostDoes

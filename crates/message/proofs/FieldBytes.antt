@@ -1,7 +1,7 @@
 -- Laws of the four fields as bytes: past the end of a list, and put into a buffer. Assumes nothing.
 use Prim.Native.Nat.{ℕ, _+_, _≤_}
 use native.Mathlib.Omega.{arith}
-use mathlib.Core.Path.{_≡_, sym}
+use mathlib.Core.Path.{_≡_}
 use mathlib.Core.List.{List, _++_}
 use lib.ListN.{length}
 use Rattle.basis.specs.Bytes.{wordBytes, part, patched}

@@ -10,9 +10,9 @@ use Rattle.basis.specs.Choice.{pick}
 use Rattle.basis.proofs.Choosing.{by-cases, pick-yes, and-left}
 use Rattle.basis.proofs.Lists.{length-part}
 use Rattle.message.specs.Version.{goodVersion}
-use Rattle.message.specs.Messages.{DeviceMessage, query, announce, fragment, downloadReply, execute, resultReply, GatewayMessage, queryReply}
-use Rattle.message.specs.Messages.{announceReply, fragmentRequest, downloadReport, executeReply, resultReport, Reading, found, refused, toDevice}
-use Rattle.message.specs.Messages.{toGateway, deviceRow}
+use Rattle.message.specs.Messages.{DeviceMessage, query, announce, fragment, downloadReply, execute, resultReply}
+use Rattle.message.specs.Messages.{Reading, found, refused, toDevice}
+use Rattle.message.specs.Messages.{deviceRow}
 use Rattle.codec.specs.Codec.{readOf}
 use Rattle.codec.proofs.RoundTrip.{device-round-trip}
 use Rattle.device_record.specs.declared.Device.{Device}

@@ -3,7 +3,7 @@ use Prim.Native.Nat.{ℕ, _+_, _≤_}
 use native.Mathlib.Omega.{arith}
 use mathlib.Core.Path.{_≡_}
 use mathlib.Core.Bool.{Bool}
-use mathlib.Core.List.{List, []}
+use mathlib.Core.List.{List}
 use lib.ListN.{length, length-append, length-take}
 use borrow.Author.Tests.{eqb-true}
 use Rattle.basis.proofs.Choosing.{by-cases, passed}
@@ -91,7 +91,8 @@ module _ (g : Gateway) (content reply : List ℕ) where
   unfolding gateway.fragmentReply deviceRow fragmentOf
   fragment-fits version index h =
       spoken-fits (gateway.fragmentReply g content version index)
-      (by-cases (λ (bytes : List ℕ). length (toDevice .content (fragment 0x00 index bytes)) ≤ 3 + sizeMax) (λ _. simp length-take (omega arith)) (λ _. omega arith))
+      (by-cases (λ (bytes : List ℕ). length (toDevice .content (fragment 0x00 index bytes)) ≤ 3 + sizeMax) (λ _. simp length-take (omega arith))
+      (λ _. omega arith))
 
   handled-fits : g .fields .size ≤ sizeMax → (r : Reading GatewayMessage) → Fits (gateway.handle g content reply r)
   unfolding Fits gateway.handle gateway.onQueryReply gateway.onAnnounceReply gateway.onFragmentRequest gateway.onDownloadReport gateway.onExecuteReply

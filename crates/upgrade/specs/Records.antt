@@ -8,7 +8,7 @@ use Rattle.device.specs.declared.Finished.{Finished}
 use Rattle.device.specs.Rules as device
 use Rattle.gateway_record.specs.declared.Gateway.{Gateway}
 use Rattle.gateway.specs.Rules as gateway
-use Rattle.upgrade.specs.Calls.{aired, DeviceCall, given, asked, finished, GatewayCall, Done, DeviceSide, GatewaySide, Ends, Exchange}
+use Rattle.upgrade.specs.Calls.{aired, DeviceCall, given, asked, finished, GatewayCall, Done, DeviceSide, Ends, Exchange}
 
 -- ---- the device, with image and map as the last call left them
 

@@ -11,7 +11,6 @@ use Rattle.message.specs.Messages.{resultReport, toDevice, toGateway}
 use Rattle.checksum.specs.Check.{checkOf}
 use Rattle.codec.specs.Codec.{bytesOf}
 use Rattle.device_record.specs.Record.{loading}
-use Rattle.gateway_record.specs.Record as gateway
 use Rattle.upgrade.specs.Fold.{Allowed}
 use Rattle.upgrade.specs.Calls.{DeviceCall, given, asked, finished, GatewayCall, Call, atDevice, atGateway, next, May}
 use Rattle.upgrade.specs.Records.{records, World}

@@ -52,7 +52,13 @@ array-read-t33 : tie.Need-array-read-t33
 array-read-t33 c = search needs
 
 returns : tie.Need-returns
-returns c = rw (c .before .before .before .word-bytes .ensures, c .before .before .word-bytes2 .ensures, c .before .word-bytes3 .ensures, c .word-bytes4 .ensures)
+returns c = rw (
+  c .before .before .before .word-bytes .ensures,
+  c .before .before .word-bytes2 .ensures,
+  c .before .word-bytes3 .ensures,
+  c .word-bytes4
+      .ensures,
+)
 
 pub long-bytes-spec : {M : Type 1} → statement M
 long-bytes-spec =

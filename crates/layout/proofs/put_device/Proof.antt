@@ -21,7 +21,8 @@ slice-aggregate-put-2 c = search needs
 
 put-requires-2 : tie.Need-put-requires-2
 put-requires-2 c κs =
-    let l : length (c .before .before .before .before .before .before .before .before .before .before .before .args .device .running) ≡ 16 = search needs in
+    let l : length (c .before .before .before .before .before .before .before .before .before .before .before .args .device .running) ≡ 16 = search needs
+    in
     search needs
 
 put-fields-requires : tie.Need-put-fields-requires
@@ -38,11 +39,16 @@ same-length c = search needs
 
 returns : tie.Need-returns
 returns c =
-    let s = c .before .before .before .before .before .before .before .before .before .before .before .before .before .before .before .before .before .before .before .before .before .before .before in
+    let s = c .before .before .before .before .before .before .before .before .before .before .before .before .before .before .before .before .before
+    .before .before .before .before .before .before in
     let r : length (s .args .device .running) ≡ 16 = search (needs, s .good) in
     let v : length (s .args .device .fields .version) ≡ 16 = search (needs, s .good) in
-    device-put (s .args .device) (s .args .buffer .now) _ _ _ _ _ r v (c .before .before .before .before .before .before .before .before .before .before .before .before .before .before .before .before .before .before .before .device-rest .ensures) (c .before .before .before .before .before .before .before .before .before .before .before .before .before .before .before .before .put .ensures)
-    (c .before .before .before .before .before .before .before .before .before .before .before .put2 .ensures) (c .before .before .before .before .before .before .before .put-fields .ensures) (c .before .before .put3 .ensures)
+    device-put (s .args .device) (s .args .buffer .now) _ _ _ _ _ r v
+    (c .before .before .before .before .before .before .before .before .before .before .before .before .before .before .before .before .before .before
+    .before .device-rest .ensures) (c .before .before .before .before .before .before .before .before .before .before .before .before .before .before
+    .before .before .put .ensures)
+    (c .before .before .before .before .before .before .before .before .before .before .before .put2 .ensures)
+    (c .before .before .before .before .before .before .before .put-fields .ensures) (c .before .before .put3 .ensures)
 
 pub put-device-spec : {M : Type 1} → statement M
 put-device-spec =

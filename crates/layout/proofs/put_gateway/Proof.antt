@@ -21,7 +21,8 @@ slice-aggregate-put-2 c = search needs
 
 put-requires-2 : tie.Need-put-requires-2
 put-requires-2 c κs =
-    let l : length (c .before .before .before .before .before .before .before .before .before .before .before .args .gateway .fields .version) ≡ 16 = search needs in
+    let l : length (c .before .before .before .before .before .before .before .before .before .before .before .args .gateway .fields .version) ≡ 16 =
+    search needs in
     search needs
 
 slice-aggregate-put-3 : tie.Need-slice-aggregate-put-3
@@ -35,8 +36,14 @@ same-length c = search needs
 
 returns : tie.Need-returns
 returns c =
-    let v : length (c .before .before .before .before .before .before .before .before .before .before .before .before .before .before .before .before .before .before .before .args .gateway .fields .version) ≡ 16 = search needs in
-    gateway-put (c .before .before .before .before .before .before .before .before .before .before .before .before .before .before .before .before .before .before .before .args .gateway) (c .before .before .before .before .before .before .before .before .before .before .before .before .before .before .before .before .before .before .before .args .buffer .now) _ _ _ _ v (c .before .before .before .before .before .before .before .before .before .before .before .before .before .before .before .gateway-rest .ensures) (c .before .before .before .before .before .before .before .before .before .before .before .before .put .ensures) (c .before .before .before .before .before .before .before .put2 .ensures)
+    let v : length (c .before .before .before .before .before .before .before .before .before .before .before .before .before .before .before .before
+    .before .before .before .args .gateway .fields .version) ≡ 16 = search needs in
+    gateway-put (c .before .before .before .before .before .before .before .before .before .before .before .before .before .before .before .before .before
+    .before .before .args .gateway) (c .before .before .before .before .before .before .before .before .before .before .before .before .before .before
+    .before .before .before .before .before .args .buffer .now) _ _ _ _ v
+    (c .before .before .before .before .before .before .before .before .before .before .before .before .before .before .before .gateway-rest .ensures)
+    (c .before .before .before .before .before .before .before .before .before .before .before .before .put .ensures)
+    (c .before .before .before .before .before .before .before .put2 .ensures)
     (c .before .before .put3 .ensures)
 
 pub put-gateway-spec : {M : Type 1} → statement M

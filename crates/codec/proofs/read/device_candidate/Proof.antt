@@ -22,19 +22,23 @@ returns : tie.Need-returns
 returns c = ap found (device-query (c .before .before .before .before .args .message .now) _ (c .before .before .byte-at .ensures) (c .match .keys1))
 
 returns-2 : tie.Need-returns-2
-returns-2 c = ap found (device-announce (c .before .before .before .before .before .args .message .now) _ (c .before .before .before .byte-at .ensures) _ (c .before .match .keys2) (c .fields-at .ensures))
+returns-2 c = ap found (device-announce (c .before .before .before .before .before .args .message .now) _ (c .before .before .before .byte-at .ensures) _
+    (c .before .match .keys2) (c .fields-at .ensures))
 
 returns-3 : tie.Need-returns-3
-returns-3 c = ap found (device-fragment (c .before .before .before .before .before .args .message .now) _ (c .before .before .before .byte-at .ensures) _ _ (c .before .match .keys3) (c .before .before .byte-at2 .ensures) (c .word-at .ensures))
+returns-3 c = ap found (device-fragment (c .before .before .before .before .before .args .message .now) _
+    (c .before .before .before .byte-at .ensures) _ _ (c .before .match .keys3) (c .before .before .byte-at2 .ensures) (c .word-at .ensures))
 
 returns-4 : tie.Need-returns-4
-returns-4 c = ap found (device-download (c .before .before .before .before .args .message .now) _ (c .before .before .byte-at .ensures) _ (c .match .keys4) (c .before .byte-at2 .ensures))
+returns-4 c = ap found (device-download (c .before .before .before .before .args .message .now) _ (c .before .before .byte-at .ensures) _
+    (c .match .keys4) (c .before .byte-at2 .ensures))
 
 returns-5 : tie.Need-returns-5
 returns-5 c = ap found (device-execute (c .before .before .before .before .args .message .now) _ (c .before .before .byte-at .ensures) (c .match .keys5))
 
 returns-6 : tie.Need-returns-6
-returns-6 c = ap found (device-result (c .before .before .before .before .args .message .now) _ (c .before .before .byte-at .ensures) _ (c .match .rest) (c .before .byte-at2 .ensures))
+returns-6 c = ap found (device-result (c .before .before .before .before .args .message .now) _ (c .before .before .byte-at .ensures) _ (c .match .rest)
+    (c .before .byte-at2 .ensures))
 
 pub device-candidate-spec : {M : Type 1} → statement M
 device-candidate-spec =

@@ -35,12 +35,17 @@ len c = length-laid toDevice _ _ _ _ (part (c .before .before .before .before .b
 
 -- the candidate is kept where it passes the test, and bad data where it does not
 tested : (c : tie.After-device-valid)
-    → Tested toDevice (c .before .before .before .before .before .before .before .before .before .args .supported) (c .before .before .before .before .before .before .before .before .before .args .pcp) (c .before .before .before .before .before .before .before .before .before .args .message .now)
-    (deviceMessage (c .before .before .before .before .before .device-candidate .result) (part (c .before .before .before .before .before .before .before .before .before .args .message .now) 8 16) (drop 11 (c .before .before .before .before .before .before .before .before .before .args .message .now)))
+    → Tested toDevice (c .before .before .before .before .before .before .before .before .before .args .supported)
+    (c .before .before .before .before .before .before .before .before .before .args .pcp)
+    (c .before .before .before .before .before .before .before .before .before .args .message .now)
+    (deviceMessage (c .before .before .before .before .before .device-candidate .result) (part
+    (c .before .before .before .before .before .before .before .before .before .args .message .now) 8 16) (drop 11
+    (c .before .before .before .before .before .before .before .before .before .args .message .now)))
     (c .device-valid .result) (c .before .data-len .result)
 tested c = read-tested toDevice _ _ (c .before .before .before .before .before .before .before .before .before .args .message .now) _ (bytes c)
     (device-starts _ _ (bytes-drop 8 _ (bytes c))) (c .before .before .before .before .before .before .before .recognise .ensures)
-    (c .before .before .before .before .before .before .if1 .left) _ _ _ (c .before .before .before .before .before .device-candidate .ensures) (valid c) (len c)
+    (c .before .before .before .before .before .before .if1 .left) _ _ _ (c .before .before .before .before .before .device-candidate .ensures) (valid c)
+    (len c)
 
 recognise-requires : tie.Need-recognise-requires
 recognise-requires c κs = search needs

@@ -45,12 +45,17 @@ len c =
 
 -- the candidate is kept where it passes the test, and bad data where it does not
 tested : (c : tie.After-gateway-valid)
-    → Tested toGateway (c .before .before .before .before .before .before .before .before .before .args .supported) (c .before .before .before .before .before .before .before .before .before .args .pcp) (c .before .before .before .before .before .before .before .before .before .args .message .now)
-    (gatewayMessage (c .before .before .before .before .before .gateway-candidate .result) (part (c .before .before .before .before .before .before .before .before .before .args .message .now) (versionPlace (c .before .before .before .before .before .gateway-candidate .result)) 16))
+    → Tested toGateway (c .before .before .before .before .before .before .before .before .before .args .supported)
+    (c .before .before .before .before .before .before .before .before .before .args .pcp)
+    (c .before .before .before .before .before .before .before .before .before .args .message .now)
+    (gatewayMessage (c .before .before .before .before .before .gateway-candidate .result) (part
+    (c .before .before .before .before .before .before .before .before .before .args .message .now) (versionPlace
+    (c .before .before .before .before .before .gateway-candidate .result)) 16))
     (c .gateway-valid .result) (c .before .data-len .result)
 tested c = read-tested toGateway _ _ (c .before .before .before .before .before .before .before .before .before .args .message .now) _ (bytes c)
     (gateway-starts _ _ (bytes-drop 8 _ (bytes c))) (c .before .before .before .before .before .before .before .recognise .ensures)
-    (c .before .before .before .before .before .before .if1 .left) _ _ _ (c .before .before .before .before .before .gateway-candidate .ensures) (valid c) (len c)
+    (c .before .before .before .before .before .before .if1 .left) _ _ _ (c .before .before .before .before .before .gateway-candidate .ensures)
+    (valid c) (len c)
 
 recognise-requires : tie.Need-recognise-requires
 recognise-requires c κs = search needs

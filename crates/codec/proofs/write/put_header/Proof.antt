@@ -27,7 +27,8 @@ same-length : tie.Need-same-length
 same-length c = search needs
 
 returns : tie.Need-returns
-returns c = c .before .before .put .ensures ∙ patched-front _ (c .before .before .before .before .before .before .before .args .out .now) ∙ rw (c .before .before .before .before .before .word-bytes .ensures)
+returns c = c .before .before .put .ensures ∙ patched-front _ (c .before .before .before .before .before .before .before .args .out .now) ∙ rw
+    (c .before .before .before .before .before .word-bytes .ensures)
 
 pub put-header-spec : {M : Type 1} → statement M
 put-header-spec =

@@ -18,7 +18,8 @@ same-length : tie.Need-same-length
 same-length c = search needs
 
 returns-2 : tie.Need-returns-2
-returns-2 c = c .before .before .write-to-gateway .ensures ∙ gateway-spoken (c .before .before .before .before .before .before .args .version) _ (c .before .before .before .before .before .before .args .message) (c .before .before .before .before .match .keys2)
+returns-2 c = c .before .before .write-to-gateway .ensures ∙ gateway-spoken (c .before .before .before .before .before .before .args .version) _
+    (c .before .before .before .before .before .before .args .message) (c .before .before .before .before .match .keys2)
 
 pub say-to-gateway-spec : {M : Type 1} → statement M
 say-to-gateway-spec =

@@ -38,7 +38,8 @@ same-length c = search needs
 
 returns : tie.Need-returns
 returns c = rw (c .word-bytes .ensures)
-    (sealed-in (c .before .before .before .before .before .args .n) _ (c .before .before .before .before .before .args .out .now) (c .before .before .before .before .before .pre .0) (c .before .before .before .before .before .pre .1) (c .before .message-check .ensures))
+    (sealed-in (c .before .before .before .before .before .args .n) _ (c .before .before .before .before .before .args .out .now)
+    (c .before .before .before .before .before .pre .0) (c .before .before .before .before .before .pre .1) (c .before .message-check .ensures))
 
 pub seal-spec : {M : Type 1} → statement M
 seal-spec =

@@ -28,14 +28,16 @@ unfolding handle
 returns c =
     let s = c .before .before .before .before in
     leads _ (s .args .content .now) (s .args .reply .now) _ _ (s .args .reading) _ 1 (c .before .match .keys1) (s .pre .1)
-    (λ v e. c .on-query-reply .ensures .0 (v .0) e (s .args .content .now) (s .args .reply .now)) (λ v e. c .on-query-reply .ensures .1 (v .0) e (s .args .content .now) (s .args .reply .now))
+    (λ v e. c .on-query-reply .ensures .0 (v .0) e (s .args .content .now) (s .args .reply .now)) (λ v e. c .on-query-reply .ensures .1 (v .0) e
+    (s .args .content .now) (s .args .reply .now))
 
 returns-2 : tie.Need-returns-2
 unfolding handle
 returns-2 c =
     let s = c .before .before .before .before in
     leads _ (s .args .content .now) (s .args .reply .now) _ _ (s .args .reading) _ 2 (c .before .match .keys2) (s .pre .1)
-    (λ v e. c .on-announce-reply .ensures .0 (v .0) e (s .args .content .now) (s .args .reply .now)) (λ v e. c .on-announce-reply .ensures .1 (v .0) e (s .args .content .now) (s .args .reply .now))
+    (λ v e. c .on-announce-reply .ensures .0 (v .0) e (s .args .content .now) (s .args .reply .now)) (λ v e. c .on-announce-reply .ensures .1 (v .0) e
+    (s .args .content .now) (s .args .reply .now))
 
 same-length : tie.Need-same-length
 same-length c = search needs
@@ -55,14 +57,16 @@ unfolding handle
 returns-4 c =
     let s = c .before .before .before .before .before .before .before in
     leads _ (s .args .content .now) (s .args .reply .now) _ _ (s .args .reading) _ 4 (c .before .before .before .before .match .keys4) (s .pre .1)
-    (λ v e. c .before .before .on-download-report .ensures .0 (v .0) e (s .args .content .now)) (λ v e. c .before .before .on-download-report .ensures .1 (v .0) e (s .args .content .now))
+    (λ v e. c .before .before .on-download-report .ensures .0 (v .0) e (s .args .content .now)) (λ v e. c .before .before .on-download-report .ensures .1
+    (v .0) e (s .args .content .now))
 
 returns-5 : tie.Need-returns-5
 unfolding handle
 returns-5 c =
     let s = c .before .before .before .before in
     leads _ (s .args .content .now) (s .args .reply .now) _ _ (s .args .reading) _ 5 (c .before .match .keys5) (s .pre .1)
-    (λ v e. c .on-execute-reply .ensures .0 (v .0) e (s .args .content .now) (s .args .reply .now)) (λ v e. c .on-execute-reply .ensures .1 (v .0) e (s .args .content .now) (s .args .reply .now))
+    (λ v e. c .on-execute-reply .ensures .0 (v .0) e (s .args .content .now) (s .args .reply .now)) (λ v e. c .on-execute-reply .ensures .1 (v .0) e
+    (s .args .content .now) (s .args .reply .now))
 
 same-length-3 : tie.Need-same-length-3
 same-length-3 c = search needs
@@ -72,8 +76,10 @@ unfolding handle
 returns-6 c =
     let s = c .before .before .before .before .before .before .before in
     let r = c .before .before .before .before .match .rest in
-    leads-last _ (s .args .content .now) (s .args .reply .now) _ _ (s .args .reading) _ (r .0 .0 .0 .0 .1) (r .0 .0 .0 .1) (r .0 .0 .1) (r .0 .1) (r .1) (s .pre .1)
-    (λ v e. c .before .before .on-result-report .ensures .0 (v .0) e (s .args .content .now)) (λ v e. c .before .before .on-result-report .ensures .1 (v .0) e (s .args .content .now))
+    leads-last _ (s .args .content .now) (s .args .reply .now) _ _ (s .args .reading) _ (r .0 .0 .0 .0 .1) (r .0 .0 .0 .1) (r .0 .0 .1) (r .0 .1) (r .1)
+    (s .pre .1)
+    (λ v e. c .before .before .on-result-report .ensures .0 (v .0) e (s .args .content .now)) (λ v e. c .before .before .on-result-report .ensures .1
+    (v .0) e (s .args .content .now))
 
 pub handle-spec : {M : Type 1} → statement M
 handle-spec =

@@ -29,7 +29,13 @@ word-at-requires-3 : tie.Need-word-at-requires-3
 word-at-requires-3 c κs = search needs
 
 returns-2 : tie.Need-returns-2
-returns-2 c = rw (c .before .before .before .before .version-at .ensures, c .before .before .word-at .ensures, c .before .word-at2 .ensures, c .word-at3 .ensures)
+returns-2 c = rw (
+  c .before .before .before .before .version-at .ensures,
+  c .before .before .word-at .ensures,
+  c .before .word-at2 .ensures,
+  c .word-at3
+      .ensures,
+)
 
 pub fields-at-spec : {M : Type 1} → statement M
 fields-at-spec =

@@ -33,9 +33,15 @@ same-length c = search needs
 
 returns : tie.Need-returns
 returns c =
-    let l : length (c .before .before .before .before .before .before .before .before .before .before .before .before .before .args .fields .version) ≡ 16 = search needs in
-    let h : c .before .before .before .before .before .before .before .before .before .before .before .before .before .args .at + 22 ≤ length (c .before .before .before .before .before .before .before .before .before .before .before .before .before .args .buffer .now) = c .before .before .before .before .before .before .before .before .before .before .before .before .before .pre in
-    fields-put (c .before .before .before .before .before .before .before .before .before .before .before .before .before .args .fields) (c .before .before .before .before .before .before .before .before .before .before .before .before .before .args .at) _ (c .before .before .before .before .before .before .before .before .before .before .before .before .before .args .buffer .now) _ _ l (omega arith) (c .before .before .before .before .before .before .before .before .before .before .words-of .ensures)
+    let l : length (c .before .before .before .before .before .before .before .before .before .before .before .before .before .args .fields .version) ≡ 16
+    = search needs in
+    let h : c .before .before .before .before .before .before .before .before .before .before .before .before .before .args .at + 22 ≤ length
+    (c .before .before .before .before .before .before .before .before .before .before .before .before .before .args .buffer .now) = c .before .before
+    .before .before .before .before .before .before .before .before .before .before .before .pre in
+    fields-put (c .before .before .before .before .before .before .before .before .before .before .before .before .before .args .fields)
+    (c .before .before .before .before .before .before .before .before .before .before .before .before .before .args .at) _
+    (c .before .before .before .before .before .before .before .before .before .before .before .before .before .args .buffer .now) _ _ l (omega arith)
+    (c .before .before .before .before .before .before .before .before .before .before .words-of .ensures)
     (c .before .before .before .before .before .before .before .put .ensures) (c .before .before .put2 .ensures)
 
 pub put-fields-spec : {M : Type 1} → statement M
