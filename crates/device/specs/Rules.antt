@@ -34,27 +34,24 @@ module _ (d : Device) (image map reply : List ℕ) where
   abbrev pub refuse : ℕ → After
   refuse n = record { number = n; length = 0; device = d; image = image; map = map; reply = reply }
 
-  -- handled, with no reply; only the record changes
-  abbrev pub moved : Device → After
-  moved e = record { number = 0; length = 0; device = e; image = image; map = map; reply = reply }
+  -- handled, with no reply; image and map as they are from now on, and as they were
+  abbrev pub movedWith : (image map : List ℕ) → Device → After
+  movedWith image map e = record { number = 0; length = 0; device = e; image = image; map = map; reply = reply }
 
-  -- handled, with a reply at the front of its buffer
-  abbrev pub replied : Device → GatewayMessage → After
-  replied e m =
+  abbrev pub moved : Device → After
+  moved e = movedWith image map e
+
+  -- handled, with a reply at the front of its buffer; the map as it is from now on, and as it was
+  abbrev pub repliedWith : (map : List ℕ) → Device → GatewayMessage → After
+  repliedWith map e m =
       record { number = 0; length = length (bytesOf toGateway m); device = e; image = image; map = map; reply = over (bytesOf toGateway m) reply }
+
+  abbrev pub replied : Device → GatewayMessage → After
+  replied e m = repliedWith map e m
 
   -- 20 answered 00 afresh: Loading, the four fields taken, the map bytes zeroed
   unfoldable pub begin : Fields → After
-  begin f =
-      let m : GatewayMessage = announceReply 0x00 in
-      record {
-        number = 0;
-        length = length (bytesOf toGateway m);
-        device = begun f d;
-        image = image;
-        map = cleared (mapBytes (f .total)) map;
-        reply = over (bytesOf toGateway m) reply;
-      }
+  begin f = repliedWith (cleared (mapBytes (f .total)) map) (begun f d) (announceReply 0x00)
 
   -- 21 with 00, in range and new: the data at its place, the bit set, the count grown, the phase by what is then complete
   unfoldable pub store : (index : ℕ) → List ℕ → After
@@ -63,14 +60,7 @@ module _ (d : Device) (image map reply : List ℕ) where
       let stored : ℕ = d .stored + 1 in
       let last : ℕ = lastAfter f index (length bytes) (d .last) in
       let filled : List ℕ = patched (index * f .size) bytes image in
-      record {
-        number = 0;
-        length = 0;
-        device = withFragment (completion stored last f filled) stored last d;
-        image = filled;
-        map = mark index map;
-        reply = reply;
-      }
+      movedWith filled (mark index map) (withFragment (completion stored last f filled) stored last d)
 
   -- ---- the six messages
 
