@@ -13,6 +13,11 @@ pub use write::say_to_gateway;
 pub use write::write_to_device;
 pub use write::write_to_gateway;
 
+// Where the code of a message stands, and where its data begins.
+pub const CODE: usize = 3;
+
+pub const DATA: usize = 8;
+
 // What a writer answers, and what an ask for the next message: 0 and the length of the message at the
 // front of the buffer, or the number why there is none and 0.
 pub struct Written {

@@ -1,4 +1,6 @@
 // Messages read: recognised, their fields at their places, and nothing else in their data.
+use crate::CODE;
+use crate::DATA;
 use crate::parts::data_len;
 use crate::parts::device_parts;
 use crate::parts::gateway_parts;
@@ -53,7 +55,7 @@ fn device_candidate(message: &[u8]) -> ToDevice
     ensures { λ r. ⌜ deviceMessage r (part (now (message .entry)) 8 16) (drop 11 (now (message .entry)))
         ≡ found (deviceFields (getD (now (message .entry)) 3 0) (drop 8 (now (message .entry)))) ⌝ }
 {
-    let code = basis::byte_at(message, 3);
+    let code = basis::byte_at(message, CODE);
     let result = basis::byte_at(message, DATA);
     match code {
         19 => ToDevice::Query,
@@ -79,7 +81,7 @@ fn gateway_candidate(message: &[u8]) -> ToGateway
     ensures { λ r. ⌜ gatewayMessage r (part (now (message .entry)) (versionPlace r) 16)
         ≡ found (gatewayFields (getD (now (message .entry)) 3 0) (drop 8 (now (message .entry)))) ⌝ }
 {
-    let code = basis::byte_at(message, 3);
+    let code = basis::byte_at(message, CODE);
     let result = basis::byte_at(message, DATA);
     match code {
         19 => ToGateway::QueryReply(result),

@@ -4,6 +4,7 @@ use crate::replies::moved;
 use crate::replies::number_of;
 use crate::replies::refused;
 use crate::replies::replied;
+use basis::number::HANDLED;
 use basis::number::NO_USE;
 use basis::pick;
 use device_decisions::announce_result;
@@ -140,7 +141,7 @@ pub(crate) fn on_fragment(
     }
     let fields = device.fields;
     let number = fragment_number(fields, index, content.len(), map);
-    if number != 0 {
+    if number != HANDLED {
         return refused(device, number);
     }
     store(device, index, content, image, map)

@@ -1,5 +1,6 @@
 // What a handler answers with.
 use crate::Answer;
+use basis::number::HANDLED;
 use basis::number::NO_USE;
 use device_record::Device;
 use message::ToDevice;
@@ -41,7 +42,7 @@ pub(crate) fn moved(device: Device) -> Answer
     ensures { λ r. ⌜ ((image map reply : List ℕ) → afterCall r image map reply ≡ moved device image map reply device) ⌝ }
 {
     Answer {
-        number: 0,
+        number: HANDLED,
         length: 0,
         device,
     }

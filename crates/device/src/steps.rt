@@ -9,6 +9,7 @@ use crate::handlers::on_query;
 use crate::handlers::on_result_reply;
 use crate::replies::refused;
 use basis::number::BAD_RECORD;
+use basis::number::HANDLED;
 use basis::number::NO_USE;
 use codec::Written;
 use device_record::Device;
@@ -46,11 +47,11 @@ fn handle(
         ≡ handle device (now (image .entry)) (now (map .entry)) (now (reply .entry)) condition (deviceMessage reading (part (now
         (message .entry)) 8 16) (drop 11 (now (message .entry)))) ⌝ }
 {
-    let code = basis::byte_at(message, 3);
+    let code = basis::byte_at(message, codec::CODE);
     match code {
         19 => on_query(device, reading, reply),
         20 => {
-            let version = message::version_at(message, 8);
+            let version = message::version_at(message, codec::DATA);
             on_announce(device, condition, reading, version, image, map, reply)
         }
         21 => on_fragment(device, reading, codec::fragment_data(message), image, map),
@@ -76,7 +77,7 @@ pub fn receive(
         ≡ receiveOf device (now (image .entry)) (now (map .entry)) (now (reply .entry)) supported pcp condition (now (message .entry)) ⌝ }
 {
     let number = device_record::receiving(device, condition, image, map, reply);
-    if number != 0 {
+    if number != HANDLED {
         return refused(device, number);
     }
     let reading = codec::read_to_device(supported, pcp, message);
@@ -131,7 +132,7 @@ pub fn next_message(device: Device, image: &[u8], map: &[u8], reply: &mut [u8]) 
     ensures { λ r. ⌜ sent r (now (reply .exit)) ≡ nextMessageOf device (now (image .entry)) (now (map .entry)) (now (reply .entry)) ⌝ }
 {
     let number = device_record::asking(device, image, map, reply);
-    if number != 0 {
+    if number != HANDLED {
         return Written { number, length: 0 };
     }
     let message = wanted(device, map);
@@ -144,11 +145,11 @@ pub fn install_finished(device: Device, code: u8) -> Finished
     ensures { λ r. ⌜ r ≡ installFinishedOf device code ⌝ }
 {
     let number = device_record::finishing(device, code);
-    if number != 0 {
+    if number != HANDLED {
         return Finished { number, device };
     }
     Finished {
-        number: 0,
+        number: HANDLED,
         device: device_record::with_outcome(device, code),
     }
 }

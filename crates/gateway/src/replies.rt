@@ -1,5 +1,6 @@
 // What a handler answers with.
 use crate::Answer;
+use basis::number::HANDLED;
 use basis::number::NO_USE;
 use gateway_record::Gateway;
 use message::ToDevice;
@@ -41,7 +42,7 @@ pub(crate) fn moved(gateway: Gateway) -> Answer
     ensures { λ r. ⌜ ((content reply : List ℕ) → afterCall r reply ≡ moved gateway content reply gateway) ⌝ }
 {
     Answer {
-        number: 0,
+        number: HANDLED,
         length: 0,
         gateway,
     }

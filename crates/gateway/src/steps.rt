@@ -7,6 +7,7 @@ use crate::handlers::on_fragment_request;
 use crate::handlers::on_query_reply;
 use crate::handlers::on_result_report;
 use crate::replies::refused;
+use basis::number::HANDLED;
 use basis::number::NO_USE;
 use codec::Written;
 use gateway_record::Gateway;
@@ -60,12 +61,12 @@ pub fn receive(
         ≡ receiveOf gateway (now (content .entry)) (now (reply .entry)) supported pcp (now (message .entry)) ⌝ }
 {
     let number = calling(gateway, content.len(), reply.len());
-    if number != 0 {
+    if number != HANDLED {
         return refused(gateway, number);
     }
     let reading = codec::read_to_gateway(supported, pcp, message);
     let version = message::version_at(message, codec::version_place(reading));
-    let code = basis::byte_at(message, 3);
+    let code = basis::byte_at(message, codec::CODE);
     handle(gateway, code, reading, version, content, reply)
 }
 
@@ -94,7 +95,7 @@ pub fn next_message(gateway: Gateway, content: &[u8], reply: &mut [u8]) -> Writt
     ensures { λ r. ⌜ sent r (now (reply .exit)) ≡ nextMessageOf gateway (now (content .entry)) (now (reply .entry)) ⌝ }
 {
     let number = calling(gateway, content.len(), reply.len());
-    if number != 0 {
+    if number != HANDLED {
         return Written { number, length: 0 };
     }
     let fields = gateway.fields;
