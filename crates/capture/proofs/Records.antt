@@ -10,7 +10,7 @@ use lib.ListN.{length, take, drop, getD, length-append, length-take, length-drop
 use lib.Seq.{getD-append-add, drop-append-add, take-append-seam, take-add, drop-drop}
 use Rattle.basis.specs.Bytes.{Bytes, wordAt, wordBytes, part}
 use Rattle.basis.proofs.Lists.{part-within}
-use Rattle.capture.specs.Capture.{Item, markOf, recordBytes, headLength, wrongMark, left, itemAt, placeAfter, partOf}
+use Rattle.capture.specs.Capture.{Item, markOf, recordBytes, headerLength, wrongMark, left, itemAt, placeAfter, partOf}
 use Rattle.capture.specs.Recorded.{Recorded}
 use Rattle.capture.proofs.Steps.{Found, found, is-found}
 
@@ -30,7 +30,7 @@ word-behind before rest at = rw (add-assoc (length before) at 1, getD-append-add
 halves : (n : ℕ) → n / 256 * 256 + n % 256 ≡ n
 halves n = omega arith
 
-pub length-record : (toDevice : Bool) (message : List ℕ) → length (recordBytes toDevice message) ≡ headLength + length message
+pub length-record : (toDevice : Bool) (message : List ℕ) → length (recordBytes toDevice message) ≡ headerLength + length message
 unfolding recordBytes
 length-record toDevice message = omega arith
 
@@ -49,17 +49,17 @@ module _ (before : List ℕ) (toDevice : Bool) (message rest : List ℕ) where
   unfolding recordBytes
   length-read = sym (word-behind before (recordBytes toDevice message ++ rest) 2 ∙ halves (length message))
 
-  all-there : headLength + length message ≤ left capture (length before)
+  all-there : headerLength + length message ≤ left capture (length before)
   all-there = simp (length-append, length-record) (omega arith)
 
-  pub read-record : itemAt capture (length before) ≡ Item.found toDevice (length before + headLength) (length message)
+  pub read-record : itemAt capture (length before) ≡ Item.found toDevice (length before + headerLength) (length message)
   read-record =
       sym (found capture (length before) (omega (arith, all-there)) (λ one. omega (arith, all-there)) mark-read (right-mark toDevice) length-read all-there)
-      ∙ ap (λ (d : Bool). Item.found d (length before + headLength) (length message)) (mark-tells toDevice)
+      ∙ ap (λ (d : Bool). Item.found d (length before + headerLength) (length message)) (mark-tells toDevice)
 
-  pub read-message : partOf capture (length before + headLength) (length message) ≡ message
+  pub read-message : partOf capture (length before + headerLength) (length message) ≡ message
   unfolding recordBytes
-  read-message = rw (drop-append-add before (recordBytes toDevice message ++ rest) headLength) (take-append-seam message rest)
+  read-message = rw (drop-append-add before (recordBytes toDevice message ++ rest) headerLength) (take-append-seam message rest)
 
   pub read-next : placeAfter (itemAt capture (length before)) (length before) ≡ length (before ++ recordBytes toDevice message)
   read-next = rw (read-record, length-append, length-record) (omega arith)
@@ -70,7 +70,7 @@ length-within : (capture : List ℕ) (start count : ℕ) → start + count ≤ l
 length-within capture start count h = simp (length-take, length-drop) (omega arith)
 
 -- the bytes before a message, and two WORDs whose bytes they are
-head-of : (capture : List ℕ) (at : ℕ) → part capture at headLength
+head-of : (capture : List ℕ) (at : ℕ) → part capture at headerLength
     ≡ getD capture at 0 ∷ getD capture (at + 1) 0 ∷ getD capture (at + 2) 0 ∷ getD capture (at + 2 + 1) 0 ∷ []
 unfolding part
 head-of capture at =
@@ -88,16 +88,16 @@ words a b c d m n rest hb hd em en =
     λ i. pa i ∷ pb i ∷ pc i ∷ pd i ∷ rest
 
 pub stands : {toDevice : Bool} {start count : ℕ} (capture : List ℕ) (at : ℕ) → Bytes capture → itemAt capture at ≡ Item.found toDevice start count
-    → take (headLength + count) (drop at capture) ≡ recordBytes toDevice (partOf capture start count)
+    → take (headerLength + count) (drop at capture) ≡ recordBytes toDevice (partOf capture start count)
 unfolding Bytes recordBytes
 stands {toDevice} {start} {count} capture at bytes e = from-found (is-found capture at e)
   where
-    from-found : Found capture at toDevice start count → take (headLength + count) (drop at capture) ≡ recordBytes toDevice (partOf capture start count)
+    from-found : Found capture at toDevice start count → take (headerLength + count) (drop at capture) ≡ recordBytes toDevice (partOf capture start count)
     from-found f =
         rw (
-          take-add headLength count (drop at capture),
-          drop-drop headLength at capture,
-          ← part-within capture at headLength (omega arith),
+          take-add headerLength count (drop at capture),
+          drop-drop headerLength at capture,
+          ← part-within capture at headerLength (omega arith),
           ← f .behind,
           head-of,
         )

@@ -8,7 +8,7 @@ use lib.Dec.{eqb, ltb}
 use lib.ListN.{length}
 use borrow.Author.Tests.{le-leb, lt-leb, lt-ltb, le-ltb, eq-eqb, ne-eqb, ltb-false, eqb-true, not-false}
 use Rattle.basis.proofs.Choosing.{pick-yes, pick-no, by-cases}
-use Rattle.capture.specs.Capture.{Item, Walk, markOf, headLength, markAt, lengthAt, left, wrongMark, itemAt, placeAfter, walkAt}
+use Rattle.capture.specs.Capture.{Item, Walk, markOf, headerLength, markAt, lengthAt, left, wrongMark, itemAt, placeAfter, walkAt}
 
 module _ (capture : List ℕ) (at : ℕ) where
   pub ends : length capture ≤ at → Item.end ≡ itemAt capture at
@@ -27,17 +27,17 @@ module _ (capture : List ℕ) (at : ℕ) where
           sym (pick-no _ _ _ (lt-leb _ _ some) ∙ pick-no _ _ _ (ne-eqb _ _ more) ∙ pick-yes _ _ _ (ap wrongMark (sym read) ∙ wrong))
 
       module _ (right : wrongMark mark ≡ false) {count : ℕ} (counted : count ≡ lengthAt capture at) where
-        pub cut-short : left capture at < headLength + count → Item.fault 21 ≡ itemAt capture at
+        pub cut-short : left capture at < headerLength + count → Item.fault 21 ≡ itemAt capture at
         unfolding itemAt
         cut-short short =
             sym (pick-no _ _ _ (lt-leb _ _ some) ∙ pick-no _ _ _ (ne-eqb _ _ more) ∙ pick-no _ _ _ (ap wrongMark (sym read) ∙ right)
-            ∙ pick-yes _ _ _ (ap (λ (n : ℕ). ltb (left capture at) (headLength + n)) (sym counted) ∙ lt-ltb _ _ short))
+            ∙ pick-yes _ _ _ (ap (λ (n : ℕ). ltb (left capture at) (headerLength + n)) (sym counted) ∙ lt-ltb _ _ short))
 
-        pub found : headLength + count ≤ left capture at → Item.found (eqb mark (markOf true)) (at + headLength) count ≡ itemAt capture at
+        pub found : headerLength + count ≤ left capture at → Item.found (eqb mark (markOf true)) (at + headerLength) count ≡ itemAt capture at
         unfolding itemAt
         found whole =
             rw (read, counted) (sym (pick-no _ _ _ (lt-leb _ _ some) ∙ pick-no _ _ _ (ne-eqb _ _ more) ∙ pick-no _ _ _ (ap wrongMark (sym read) ∙ right)
-            ∙ pick-no _ _ _ (ap (λ (n : ℕ). ltb (left capture at) (headLength + n)) (sym counted) ∙ le-ltb _ _ whole)))
+            ∙ pick-no _ _ _ (ap (λ (n : ℕ). ltb (left capture at) (headerLength + n)) (sym counted) ∙ le-ltb _ _ whole)))
 
 -- a step of what stands at a place, and of the place that follows from it
 pub steps : (capture : List ℕ) (at : ℕ) {item : Item} {next : ℕ} → item ≡ itemAt capture at → next ≡ placeAfter item at
@@ -59,7 +59,7 @@ mark-is mark = by-test (eqb mark (markOf true)) refl
 pub record Found (capture : List ℕ) (at : ℕ) (toDevice : Bool) (start count : ℕ) : Type 0 where
   pub mark : markAt capture at ≡ markOf toDevice
   pub counted : lengthAt capture at ≡ count
-  pub behind : start ≡ at + headLength
+  pub behind : start ≡ at + headerLength
   pub within : start + count ≤ length capture
 
 module _ {toDevice : Bool} {start count : ℕ} where
@@ -69,11 +69,11 @@ module _ {toDevice : Bool} {start count : ℕ} where
   no-fault : {A : Type 0} {number : ℕ} → Item.fault number ≡ Item.found toDevice start count → A
   no-fault e = let z : _≡_ {A = ℕ} 0 1 = cc in absurd (omega arith)
 
-  whole : (capture : List ℕ) (at mark n : ℕ) → markAt capture at ≡ mark → lengthAt capture at ≡ n → wrongMark mark ≡ false → headLength + n ≤ left capture at
-      → Item.found (eqb mark (markOf true)) (at + headLength) n ≡ Item.found toDevice start count → Found capture at toDevice start count
+  whole : (capture : List ℕ) (at mark n : ℕ) → markAt capture at ≡ mark → lengthAt capture at ≡ n → wrongMark mark ≡ false → headerLength + n ≤ left capture at
+      → Item.found (eqb mark (markOf true)) (at + headerLength) n ≡ Item.found toDevice start count → Found capture at toDevice start count
   whole capture at mark n read counted right fits e =
       let d : eqb mark (markOf true) ≡ toDevice = cc in
-      let s : at + headLength ≡ start = cc in
+      let s : at + headerLength ≡ start = cc in
       let m : n ≡ count = cc in
       record { mark = read ∙ mark-is mark right ∙ ap markOf d; counted = counted ∙ m; behind = sym s; within = omega arith }
 

@@ -18,8 +18,8 @@ unfoldable pub recordBytes : (toDevice : Bool) (message : List ℕ) → List ℕ
 recordBytes toDevice message = wordBytes (markOf toDevice) ++ (wordBytes (length message) ++ message)
 
 -- the bytes of a record before its message
-abbrev pub headLength : ℕ
-headLength = 4
+abbrev pub headerLength : ℕ
+headerLength = 4
 
 -- ---- reading
 
@@ -48,8 +48,8 @@ itemAt capture at =
     pick (leb (length capture) at) Item.end
     (pick (eqb (left capture at) 1) (Item.fault cutShort)
     (pick (wrongMark (markAt capture at)) (Item.fault badMark)
-    (pick (ltb (left capture at) (headLength + lengthAt capture at)) (Item.fault cutShort)
-    (Item.found (eqb (markAt capture at) (markOf true)) (at + headLength) (lengthAt capture at)))))
+    (pick (ltb (left capture at) (headerLength + lengthAt capture at)) (Item.fault cutShort)
+    (Item.found (eqb (markAt capture at) (markOf true)) (at + headerLength) (lengthAt capture at)))))
 
 -- the next place: behind a record; after the end, 20 and 21 the place stands
 abbrev pub placeAfter : Item → ℕ → ℕ

@@ -16,7 +16,7 @@ const TO_DEVICE: u16 = 0x4C3E;
 const FROM_DEVICE: u16 = 0x4C3C;
 
 // The bytes of a record before its message: mark and length.
-const HEAD_LENGTH: usize = 4;
+const HEADER_LENGTH: usize = 4;
 
 // What stands at a place of a capture.
 pub enum Step {
@@ -62,10 +62,10 @@ fn step_at(capture: &[u8], at: usize) -> Step
         return Step::Fault(BAD_MARK);
     }
     let length = basis::word_at(capture, at + 2) as usize;
-    if left < HEAD_LENGTH + length {
+    if left < HEADER_LENGTH + length {
         Step::Fault(CUT_SHORT)
     } else {
-        let start = at + HEAD_LENGTH;
+        let start = at + HEADER_LENGTH;
         Step::Record {
             to_device: mark == TO_DEVICE,
             start,

@@ -1,4 +1,4 @@
--- Demand 2: its parts, each proved in the file of its name. Assumes nothing.
+-- Demand 2: its parts, each proved where its laws stand. Assumes nothing.
 use Rattle.checksum.proofs.Neighbours.{message-neighbours}
 use Rattle.codec.specs.Demand2.{Demand2}
 use Rattle.codec.proofs.RoundTrip.{device-round-trip, gateway-round-trip}

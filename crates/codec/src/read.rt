@@ -5,6 +5,7 @@ use crate::parts::data_len;
 use crate::parts::device_parts;
 use crate::parts::gateway_parts;
 use basis::number::BAD_DATA;
+use basis::number::HANDLED;
 use message::Fields;
 use message::ToDevice;
 use message::ToGateway;
@@ -16,10 +17,8 @@ ghost use Rattle.codec.specs.Codec.{readOf};
 ghost use Rattle.message.specs.Enums.{deviceMessage, gatewayMessage};
 ghost use Rattle.codec.specs.Answers.{versionPlace};
 
-// Where the data of a message begins, what stands behind a result or a version text there, and the
-// data of a fragment behind its result and index.
-const DATA: usize = 8;
-
+// What stands behind a result or a version text at the front of the data, and the data of a fragment
+// behind its result and index.
 const BEHIND_RESULT: usize = DATA + 1;
 
 const BEHIND_VERSION: usize = DATA + Fields::VERSION_LENGTH;
@@ -99,7 +98,7 @@ pub fn read_to_device(supported: bool, pcp: bool, message: &[u8]) -> ToDevice
         ≡ readOf toDevice supported pcp (now (message .entry)) ⌝ }
 {
     let number = message::recognise(supported, pcp, message);
-    if number != 0 {
+    if number != HANDLED {
         return ToDevice::Refused(number);
     }
     let read = device_candidate(message);
@@ -118,7 +117,7 @@ pub fn read_to_gateway(supported: bool, pcp: bool, message: &[u8]) -> ToGateway
     ensures { λ r. ⌜ gatewayMessage r (part (now (message .entry)) (versionPlace r) 16) ≡ readOf toGateway supported pcp (now (message .entry)) ⌝ }
 {
     let number = message::recognise(supported, pcp, message);
-    if number != 0 {
+    if number != HANDLED {
         return ToGateway::Refused(number);
     }
     let read = gateway_candidate(message);

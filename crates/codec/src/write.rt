@@ -5,6 +5,7 @@ use crate::parts::data_len;
 use crate::parts::device_parts;
 use crate::parts::gateway_parts;
 use basis::number::BAD_DATA;
+use basis::number::HANDLED;
 use basis::number::SHORT_REPLY;
 use message::ToDevice;
 use message::ToGateway;
@@ -102,7 +103,10 @@ pub fn write_to_device(
     }
     let parts = device_parts(message, content.len());
     let length = write_parts(parts, version, content, out);
-    Written { number: 0, length }
+    Written {
+        number: HANDLED,
+        length,
+    }
 }
 
 // A message toward the gateway, as the device sends it.
@@ -124,10 +128,13 @@ pub fn write_to_gateway(message: ToGateway, version: [u8; 16], out: &mut [u8]) -
     let parts = gateway_parts(message);
     let none = [0u8; 0];
     let length = write_parts(parts, version, &none, out);
-    Written { number: 0, length }
+    Written {
+        number: HANDLED,
+        length,
+    }
 }
 
-// A message toward the device, or the number why there is none.
+// A message toward the device, or the number why there is none, whatever the buffer.
 pub fn say_to_device(
     message: ToDevice,
     version: [u8; 16],
@@ -142,7 +149,7 @@ pub fn say_to_device(
     write_to_device(message, version, content, out)
 }
 
-// A message toward the gateway, or the number why there is none.
+// A message toward the gateway, or the number why there is none, whatever the buffer.
 pub fn say_to_gateway(message: ToGateway, version: [u8; 16], out: &mut [u8]) -> Written
     ensures { λ r. ⌜ sent r (now (out .exit)) ≡ spoken toGateway (gatewayMessage message version) (now (out .entry)) ⌝ }
 {

@@ -9,7 +9,7 @@ use Rattle.message.specs.Version.{printable, front, allZero, goodVersion}
 use Rattle.message.specs.Recognition.{startHolds, versionByteHolds, codeHolds, checkHolds, lengthHolds, recognition}
 use Rattle.message.specs.Messages.{deviceFields, fragmentOk, installCode, deviceRow, gatewayRow}
 use Rattle.codec.specs.Codec.{sealed, frame, bytesOf, readOf, said}
-use Rattle.device_record.specs.Record.{holding, conditionOk, downloadOk, recordOk, mapBytes, roomOk}
+use Rattle.device_record.specs.Record.{holding, conditionOk, downloadOk, recordOk, mapBytes, memoryOk}
 use Rattle.device.specs.Rules.{announceResult, sameFields, resumes, fragmentLength, fragmentNumber, passes, completion, executeResult}
 use Rattle.device.specs.Rules.{begin, store, onQuery, onAnnounce, onFragment, onDownloadReply, onExecute, onResultReply, handle}
 use Rattle.device.specs.Rules.{receiveOf, wanted, nextMessageOf, installFinishedOf}
@@ -20,7 +20,7 @@ unfolding pick refusal oneOf part same over patched marked mark cleared missingF
     doubled entryOf step register checkOf zeroed messageCheck sizeOk totalOk isWord printable front allZero goodVersion
     startHolds versionByteHolds codeHolds checkHolds lengthHolds recognition
     deviceRow deviceFields fragmentOk gatewayRow installCode sealed frame bytesOf readOf said
-    holding conditionOk downloadOk recordOk mapBytes roomOk
+    holding conditionOk downloadOk recordOk mapBytes memoryOk
     announceResult sameFields resumes fragmentLength fragmentNumber passes completion executeResult
     begin store onQuery onAnnounce onFragment onDownloadReply onExecute onResultReply handle
     receiveOf wanted nextMessageOf installFinishedOf

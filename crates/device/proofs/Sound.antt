@@ -19,7 +19,7 @@ use Rattle.message.specs.Messages.{fragment, installCode, found, deviceRow}
 use Rattle.message.specs.declared.Fields.{Fields}
 use Rattle.device_record.specs.declared.Device.{Device}
 use Rattle.device_record.specs.Record.{idle, loading, loaded, acked, failed, installing, reporting, fresh, inPhase, begun, withOutcome, downloadOk, recordOk}
-use Rattle.device_record.specs.Record.{roomOk, mapBytes}
+use Rattle.device_record.specs.Record.{memoryOk, mapBytes}
 use Rattle.bitmap.specs.Bitmap.{marked, mark, cleared, setBits}
 use Rattle.device.specs.Rules.{completion}
 use Rattle.bitmap.proofs.Bitmaps.{setBits-le, setBits-mark, setBits-cleared}
@@ -70,8 +70,8 @@ module _ (rule : Rule) (d : Device) (image map : List ℕ) (s : Sound rule d ima
       (and-both (and-both (s .running-good) (s .target-good))
       (by-cases (λ (t : Bool). t ≡ true) (λ _. refl) (λ p. download-ok (s .download (eqb-false (d .phase) idle p)))))
 
-  pub sound-room : roomOk d image map ≡ true
-  unfolding roomOk
+  pub sound-room : memoryOk d image map ≡ true
+  unfolding memoryOk
   sound-room =
       by-cases (λ (t : Bool). t ≡ true)
       (λ p.

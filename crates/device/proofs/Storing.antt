@@ -12,7 +12,7 @@ use Rattle.basis.specs.Bytes.{patched}
 use Rattle.basis.proofs.Choosing.{and-both}
 use Rattle.bitmap.specs.Bitmap.{mark}
 use Rattle.device_record.specs.declared.Device.{Device}
-use Rattle.device_record.specs.Record.{loading, acked, holding, recordOk, roomOk, mapBytes, withFragment}
+use Rattle.device_record.specs.Record.{loading, acked, holding, recordOk, memoryOk, mapBytes, withFragment}
 use Rattle.device.specs.Rules.{fragmentLength, completion, moved, store}
 use Rattle.device_decisions.proofs.Tested.{fragment-fits}
 use Rattle.device.proofs.Images.{place-within}
@@ -23,7 +23,7 @@ unfolding holding
 loading-holds phase e = and-both (le-leb loading phase (omega arith)) (le-leb phase acked (omega arith))
 
 module _ (d : Device) (image map : List ℕ) (index : ℕ) (content : List ℕ)
-    (tests : (recordOk d ≡ true) × ((d .phase ≡ loading) × ((roomOk d image map ≡ true)
+    (tests : (recordOk d ≡ true) × ((d .phase ≡ loading) × ((memoryOk d image map ≡ true)
     × ((index < d .fields .total) × (fragmentLength (d .fields) index (length content) ≡ true))))) where
   ranged : Ranged d
   ranged = record-kept d (tests .0) .ranged (λ e. omega (arith, tests .1 .0))

@@ -27,12 +27,12 @@ abbrev pub zeros : ℕ → List ℕ
 zeros n = replicate n 0
 
 -- code and data of a message of n bytes at the front of a buffer
-abbrev pub spoken : (n : ℕ) → List ℕ → List ℕ
-spoken n reply = take 1 (drop 3 (take n reply)) ++ drop 8 (take n reply)
+abbrev pub codeAndData : (n : ℕ) → List ℕ → List ℕ
+codeAndData n reply = take 1 (drop 3 (take n reply)) ++ drop 8 (take n reply)
 
 -- number, phase, and the reply's code and data
 abbrev pub outcome : After → List ℕ
-outcome a = a .number ∷ a .device .phase ∷ spoken (a .length) (a .reply)
+outcome a = a .number ∷ a .device .phase ∷ codeAndData (a .length) (a .reply)
 
 -- fragment 1 of 3 is stored: phase, condition, message; number, phase, reply
 abbrev pub steps : List (ℕ × ℕ × DeviceMessage × List ℕ)
@@ -199,7 +199,7 @@ abbrev pub stateOf : After → State
 stateOf a = (a .device, a .image, a .map)
 
 abbrev pub answerOf : Sent → List ℕ
-answerOf s = s .number ∷ s .length ∷ spoken (s .length) (s .buffer)
+answerOf s = s .number ∷ s .length ∷ codeAndData (s .length) (s .buffer)
 
 pub record DeviceCases : Type 0 where
   pub step :

@@ -34,18 +34,20 @@ module _ (d : Device) (image map reply : List ℕ) where
   abbrev pub refuse : ℕ → After
   refuse n = record { number = n; length = 0; device = d; image = image; map = map; reply = reply }
 
-  -- handled, with no reply; image and map as they are from now on, and as they were
+  -- handled, with no reply; image and map as they are from now on
   abbrev pub movedWith : (image map : List ℕ) → Device → After
-  movedWith image map e = record { number = 0; length = 0; device = e; image = image; map = map; reply = reply }
+  movedWith image map e = record { number = handled; length = 0; device = e; image = image; map = map; reply = reply }
 
+  -- the same, where only the record changes
   abbrev pub moved : Device → After
   moved e = movedWith image map e
 
-  -- handled, with a reply at the front of its buffer; the map as it is from now on, and as it was
+  -- handled, with a reply at the front of its buffer; the map as it is from now on
   abbrev pub repliedWith : (map : List ℕ) → Device → GatewayMessage → After
   repliedWith map e m =
-      record { number = 0; length = length (bytesOf toGateway m); device = e; image = image; map = map; reply = over (bytesOf toGateway m) reply }
+      record { number = handled; length = length (bytesOf toGateway m); device = e; image = image; map = map; reply = over (bytesOf toGateway m) reply }
 
+  -- the same, where the map stays
   abbrev pub replied : Device → GatewayMessage → After
   replied e m = repliedWith map e m
 
@@ -64,35 +66,40 @@ module _ (d : Device) (image map reply : List ℕ) where
 
   -- ---- the six messages
 
+  -- 19, any phase: 00 and the running version
   unfoldable pub onQuery : After
   onQuery = replied d (queryReply 0x00 (d .running))
 
+  -- 20: the tests in order; then resumed, or begun afresh
   unfoldable pub onAnnounce : (condition : ℕ) → Fields → After
   onAnnounce condition f =
       let result : ℕ = announceResult d condition f image map in
       pick (eqb result 0) (pick (resumes d f) (replied d (announceReply 0x00)) (begin f)) (replied d (announceReply result))
 
+  -- 21 in Loading: 80 goes Idle, 81 changes nothing; else 10, 11, 12, or stored
   unfoldable pub onFragment : (result index : ℕ) → List ℕ → After
   onFragment result index bytes =
+      let n : ℕ = fragmentNumber (d .fields) index (length bytes) map in
       pick (eqb (d .phase) loading)
       (pick (eqb result 0x80) (moved (inPhase idle d))
       (pick (eqb result 0x81) (moved d)
-      (pick (eqb (fragmentNumber (d .fields) index (length bytes) map) handled)
-      (store index bytes)
-      (refuse (fragmentNumber (d .fields) index (length bytes) map)))))
+      (pick (eqb n handled) (store index bytes) (refuse n))))
       (refuse noUse)
 
+  -- 22: Loaded with 00 goes Acked, with 80 Idle; Failed goes Idle
   unfoldable pub onDownloadReply : (result : ℕ) → After
   onDownloadReply result =
       pick (eqb (d .phase) loaded) (moved (inPhase (pick (eqb result 0x00) acked idle) d))
       (pick (eqb (d .phase) failed) (moved (inPhase idle d))
       (refuse noUse))
 
+  -- 23: its answer, and with 00 Installing
   unfoldable pub onExecute : (condition : ℕ) → After
   onExecute condition =
       let result : ℕ = executeResult (d .phase) condition in
       replied (pick (eqb result 0x00) (inPhase installing d) d) (executeReply result)
 
+  -- 24 in Reporting: Idle
   unfoldable pub onResultReply : After
   onResultReply = pick (eqb (d .phase) reporting) (moved (inPhase idle d)) (refuse noUse)
 
@@ -110,7 +117,7 @@ module _ (d : Device) (image map reply : List ℕ) where
   unfoldable pub receiveOf : (supported pcp : Bool) (condition : ℕ) (message : List ℕ) → After
   receiveOf supported pcp condition message =
       let n : ℕ = receiveRefusal d condition image map reply in
-      pick (eqb n 0) (handle condition (readOf toDevice supported pcp message)) (refuse n)
+      pick (eqb n handled) (handle condition (readOf toDevice supported pcp message)) (refuse n)
 
 -- ---- asking for the next message
 
@@ -128,7 +135,7 @@ wanted d map =
 unfoldable pub nextMessageOf : Device → (image map reply : List ℕ) → Sent
 nextMessageOf d image map reply =
     let n : ℕ = askRefusal d image map reply in
-    said toGateway (pick (eqb n 0) (wanted d map) (refused n)) reply
+    said toGateway (pick (eqb n handled) (wanted d map) (refused n)) reply
 
 -- ---- the installer's end
 
@@ -136,6 +143,6 @@ nextMessageOf d image map reply =
 unfoldable pub installFinishedOf : Device → (code : ℕ) → Finished
 installFinishedOf d code =
     let n : ℕ = finishRefusal d code in
-    pick (eqb n 0)
-    (record { number = 0; device = withOutcome code (pick (eqb code 0x00) (d .fields .version) (d .running)) d })
+    pick (eqb n handled)
+    (record { number = handled; device = withOutcome code (pick (eqb code 0x00) (d .fields .version) (d .running)) d })
     (record { number = n; device = d })

@@ -11,7 +11,7 @@ use device_decisions::announce_result;
 use device_decisions::completion;
 use device_decisions::execute_result;
 use device_decisions::fragment_number;
-use device_decisions::last_length;
+use device_decisions::last_after;
 use device_decisions::resumes;
 use device_record::Device;
 use device_record::begun;
@@ -27,7 +27,7 @@ ghost use mathlib.Core.List.{List};
 ghost use Prim.Native.Nat.{ℕ, _≤_, _<_};
 ghost use lib.ListN.{length};
 ghost use Rattle.message.specs.Limits.{deviceRoom};
-ghost use Rattle.device_record.specs.Record.{loading, recordOk, roomOk};
+ghost use Rattle.device_record.specs.Record.{loading, recordOk, memoryOk};
 ghost use Rattle.device_decisions.specs.Decisions.{fragmentLength};
 ghost use Rattle.device.specs.Rules.{refuse, store, onQuery, onAnnounce, onFragment, onDownloadReply, onExecute, onResultReply};
 ghost use Rattle.device.specs.Answers.{afterCall};
@@ -94,7 +94,7 @@ pub(crate) fn on_announce(
 fn store(device: Device, index: u16, content: &[u8], image: &mut [u8], map: &mut [u8]) -> Answer
     requires { ⌜ recordOk device ≡ true ⌝ }
     requires { ⌜ device .phase ≡ loading ⌝ }
-    requires { ⌜ roomOk device (now image) (now map) ≡ true ⌝ }
+    requires { ⌜ memoryOk device (now image) (now map) ≡ true ⌝ }
     requires { ⌜ index < device .fields .total ⌝ }
     requires { ⌜ fragmentLength (device .fields) index (length (now content)) ≡ true ⌝ }
     ensures { λ r. ⌜ ((reply : List ℕ) → afterCall r (now (image .exit)) (now (map .exit)) reply
@@ -104,7 +104,7 @@ fn store(device: Device, index: u16, content: &[u8], image: &mut [u8], map: &mut
     let at = basis::product(index, fields.size);
     basis::put(image, at, content);
     bitmap::mark(map, index as usize);
-    let last = last_length(device, index, content.len() as u16);
+    let last = last_after(device, index, content.len() as u16);
     let stored = device.stored + 1;
     let phase = completion(stored, last, fields, image);
     moved(with_fragment(device, phase, stored, last))
@@ -119,7 +119,7 @@ pub(crate) fn on_fragment(
     map: &mut [u8],
 ) -> Answer
     requires { ⌜ recordOk device ≡ true ⌝ }
-    requires { ⌜ roomOk device (now image) (now map) ≡ true ⌝ }
+    requires { ⌜ memoryOk device (now image) (now map) ≡ true ⌝ }
     ensures { λ r. ⌜ ((result index : ℕ) → message ≡ ToDevice.Fragment result index → (reply : List ℕ)
         → afterCall r (now (image .exit)) (now (map .exit)) reply
         ≡ onFragment device (now (image .entry)) (now (map .entry)) reply result index (now (content .entry))) ⌝ }
@@ -147,7 +147,7 @@ pub(crate) fn on_fragment(
     store(device, index, content, image, map)
 }
 
-// 22: the gateway has taken the report of a download.
+// 22: Loaded with 00 goes Acked, with 80 Idle; Failed goes Idle.
 pub(crate) fn on_download_reply(device: Device, message: ToDevice) -> Answer
     ensures { λ r. ⌜ ((result : ℕ) → message ≡ ToDevice.DownloadReply result → (image map reply : List ℕ)
         → afterCall r image map reply ≡ onDownloadReply device image map reply result) ⌝ }
@@ -194,7 +194,7 @@ pub(crate) fn on_execute(
     )
 }
 
-// 24: the gateway has taken the report.
+// 24 in Reporting: Idle, with either result.
 pub(crate) fn on_result_reply(device: Device, message: ToDevice) -> Answer
     ensures { λ r. ⌜ ((result : ℕ) → message ≡ ToDevice.ResultReply result → (image map reply : List ℕ)
         → afterCall r image map reply ≡ onResultReply device image map reply) ⌝ }

@@ -11,7 +11,7 @@ use Rattle.checksum.specs.Check.{checkOf}
 use Rattle.bitmap.specs.Bitmap.{marked}
 use Rattle.message.specs.declared.Fields.{Fields}
 use Rattle.device_record.specs.declared.Device.{Device}
-use Rattle.device_record.specs.Record.{loading, loaded, acked, failed, installing, holding, mapBytes}
+use Rattle.device_record.specs.Record.{allStored, loading, loaded, acked, failed, installing, holding, mapBytes}
 
 -- 20: what it is answered with, tests in order
 unfoldable pub announceResult : Device → (condition : ℕ) → Fields → (image map : List ℕ) → ℕ
@@ -30,9 +30,13 @@ sameFields f g = same (f .version) (g .version) && (eqb (f .size) (g .size) && (
 unfoldable pub resumes : Device → Fields → Bool
 resumes d f = holding (d .phase) && (not (eqb (f .code) 0) && sameFields f (d .fields))
 
+-- index total less 1, the last fragment
+abbrev pub isLast : Fields → (index : ℕ) → Bool
+isLast f index = eqb (index + 1) (f .total)
+
 -- 21: size long; the last may be 1 to size
 unfoldable pub fragmentLength : Fields → (index length : ℕ) → Bool
-fragmentLength f index n = pick (eqb (index + 1) (f .total)) (leb 1 n && leb n (f .size)) (eqb n (f .size))
+fragmentLength f index n = pick (isLast f index) (leb 1 n && leb n (f .size)) (eqb n (f .size))
 
 -- 21: 10, 11 and 12 in order, else 0
 unfoldable pub fragmentNumber : Fields → (index length : ℕ) (map : List ℕ) → ℕ
@@ -42,17 +46,21 @@ fragmentNumber f index n map =
 
 -- the last length, once a fragment of n bytes is stored
 abbrev pub lastAfter : Fields → (index n last : ℕ) → ℕ
-lastAfter f index n last = pick (eqb (index + 1) (f .total)) n last
+lastAfter f index n last = pick (isLast f index) n last
 
 -- the completed bytes pass where the code is 0 or their check
 unfoldable pub passes : (code : ℕ) → List ℕ → Bool
 passes code bytes = eqb code 0 || eqb code (checkOf bytes)
 
--- the phase once a fragment is stored; `last` is the length of the last one, so that the package ends at its true length
+-- all fragments, true length: `last` is that of the last one
+abbrev pub trueLength : Fields → (last : ℕ) → ℕ
+trueLength f last = f .size * (f .total - 1) + last
+
+-- the phase once a fragment is stored
 unfoldable pub completion : (stored last : ℕ) → Fields → (image : List ℕ) → ℕ
 completion stored last f image =
-    pick (eqb stored (f .total))
-    (pick (passes (f .code) (take (f .size * (f .total - 1) + last) image)) loaded failed)
+    pick (allStored stored (f .total))
+    (pick (passes (f .code) (take (trueLength f last) image)) loaded failed)
     loading
 
 -- 23: what it is answered with

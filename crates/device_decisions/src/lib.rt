@@ -1,5 +1,5 @@
-// What the device decides of the messages that it is given: each test of 01's "The head" by itself,
-// over the record and plain values. Nothing is written here.
+// What the device decides of the messages that it is given: the tests of 20, 21 and 23 (01, "The
+// head"), each by itself, over the record and plain values. Nothing is written here.
 use basis::least;
 use basis::number::ALREADY_STORED;
 use basis::number::BAD_FRAGMENT_LENGTH;
@@ -13,11 +13,10 @@ use device_record::holding;
 use device_record::map_bytes;
 use message::Fields;
 ghost use mathlib.Core.Path.{_≡_};
-ghost use Prim.Native.Nat.{_+_, _*_, _-_};
 ghost use lib.Dec.{eqb, leb};
 ghost use Rattle.basis.specs.Choice.{pick};
-ghost use Rattle.device_decisions.specs.Decisions.{announceResult, sameFields, resumes, fragmentLength, fragmentNumber, lastAfter, passes, completion};
-ghost use Rattle.device_decisions.specs.Decisions.{executeResult};
+ghost use Rattle.device_decisions.specs.Decisions.{announceResult, sameFields, resumes, fragmentLength, fragmentNumber, lastAfter, passes};
+ghost use Rattle.device_decisions.specs.Decisions.{trueLength, completion, executeResult};
 
 // 20: what an announcement is answered with, tests in order.
 pub fn announce_result(
@@ -94,8 +93,8 @@ fn passes(code: u16, bytes: &[u8]) -> bool
 }
 
 // Where the package ends: every fragment but the last is size long.
-fn end_of(fields: Fields, last: u16) -> usize
-    ensures { λ r. ⌜ r ≡ fields .size * (fields .total - 1) + last ⌝ }
+fn true_length(fields: Fields, last: u16) -> usize
+    ensures { λ r. ⌜ r ≡ trueLength fields last ⌝ }
 {
     let total = fields.total;
     if total == 0 {
@@ -112,7 +111,7 @@ pub fn completion(stored: u16, last: u16, fields: Fields, image: &[u8]) -> u8
     if stored != total {
         return Device::LOADING;
     }
-    let end = least(image.len(), end_of(fields, last));
+    let end = least(image.len(), true_length(fields, last));
     if passes(fields.code, &image[0..end]) {
         Device::LOADED
     } else {
@@ -121,7 +120,7 @@ pub fn completion(stored: u16, last: u16, fields: Fields, image: &[u8]) -> u8
 }
 
 // 21: the length of the last fragment, once one more is stored.
-pub fn last_length(device: Device, index: u16, len: u16) -> u16
+pub fn last_after(device: Device, index: u16, len: u16) -> u16
     ensures { λ r. ⌜ r ≡ lastAfter (device .fields) index len (device .last) ⌝ }
 {
     let fields = device.fields;

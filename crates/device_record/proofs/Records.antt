@@ -13,7 +13,7 @@ use Rattle.message.specs.Limits.{sizeMin, sizeMax, totalMax, sizeOk, totalOk}
 use Rattle.message.specs.Version.{goodVersion}
 use Rattle.message.specs.Messages.{installCode}
 use Rattle.device_record.specs.declared.Device.{Device}
-use Rattle.device_record.specs.Record.{idle, loading, reporting, holding, downloadOk, recordOk, roomOk, mapBytes}
+use Rattle.device_record.specs.Record.{idle, loading, reporting, holding, downloadOk, recordOk, memoryOk, mapBytes}
 use Rattle.device_record.proofs.Ranges.{size-range, total-range}
 
 -- the ranges of a download
@@ -73,9 +73,9 @@ module _ (d : Device) where
       }
 
   -- the buffers hold the download
-  pub room-held : (image map : List ℕ) → holding (d .phase) ≡ true → roomOk d image map ≡ true
+  pub room-held : (image map : List ℕ) → holding (d .phase) ≡ true → memoryOk d image map ≡ true
       → (d .fields .size * d .fields .total ≤ length image) × (mapBytes (d .fields .total) ≤ length map)
-  unfolding roomOk
+  unfolding memoryOk
   room-held image map h e =
       let both : (leb (d .fields .size * d .fields .total) (length image) && leb (mapBytes (d .fields .total)) (length map)) ≡ true =
       sym (pick-yes _ _ _ h) ∙ e in

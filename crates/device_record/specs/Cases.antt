@@ -8,7 +8,7 @@ use Rattle.basis.specs.Cases.{Agree, allowed}
 use Rattle.message.specs.Cases.{text, noText}
 use Rattle.device_record.specs.declared.Device.{Device}
 use Rattle.device_record.specs.declared.Made.{Made}
-use Rattle.device_record.specs.Record.{holding, conditionOk, newOf, recordOk, mapBytes, roomOk}
+use Rattle.device_record.specs.Record.{holding, conditionOk, newOf, recordOk, mapBytes, memoryOk}
 
 -- phase; running version; target version, size, total, check code; stored count, last length, kept code
 abbrev pub device : ℕ → List ℕ → List ℕ → (size total code stored last outcome : ℕ) → Device
@@ -97,6 +97,6 @@ pub record RecordCases : Type 0 where
   pub map-needs : Agree (λ (r : ℕ × ℕ). mapBytes (r .0)) (λ r. r .1) maps
   pub room-is :
       Agree
-      (λ (r : ℕ × ℕ × ℕ × Bool). roomOk (device (r .0) (text 1) (text 2) 32 9 0 3 0 0x00) (replicate (r .1) 0) (replicate (r .2) 0))
+      (λ (r : ℕ × ℕ × ℕ × Bool). memoryOk (device (r .0) (text 1) (text 2) 32 9 0 3 0 0x00) (replicate (r .1) 0) (replicate (r .2) 0))
       (λ r. r .3)
       room

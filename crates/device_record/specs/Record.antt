@@ -5,7 +5,7 @@ use mathlib.Core.List.{List, [], _∷_}
 use lib.Dec.{eqb, leb}
 use lib.ListN.{length, replicate}
 use Rattle.basis.specs.Choice.{pick, refusal, oneOf}
-use Rattle.basis.specs.Numbers.{noUse, unknownCondition, badMemory, shortReply, badInstallCode, badVersionText, badRecord}
+use Rattle.basis.specs.Numbers.{handled, noUse, unknownCondition, badMemory, shortReply, badInstallCode, badVersionText, badRecord}
 use Rattle.message.specs.Limits.{deviceRoom, sizeOk, totalOk}
 use Rattle.message.specs.Version.{goodVersion}
 use Rattle.message.specs.Messages.{installCode}
@@ -70,15 +70,19 @@ withOutcome code running d =
 -- a fresh record from a running version alone; a bad version text is 17, with a record that 29 refuses
 unfoldable pub newOf : List ℕ → Made
 newOf version =
-    pick (goodVersion version) (record { number = 0; device = fresh version }) (record { number = badVersionText; device = fresh (replicate 16 0) })
+    pick (goodVersion version) (record { number = handled; device = fresh version }) (record { number = badVersionText; device = fresh (replicate 16 0) })
 
 -- ---- 29 and 14
+
+-- all stored: count equals total
+abbrev pub allStored : (stored total : ℕ) → Bool
+allStored stored total = eqb stored total
 
 -- in phases 1 to 6: size and total in range, count at most total and in Loading below it, last length at most size
 unfoldable pub downloadOk : Device → Bool
 downloadOk d =
     (sizeOk (d .fields .size) && totalOk (d .fields .total))
-    && (leb (d .stored) (d .fields .total) && (not (eqb (d .phase) loading && eqb (d .stored) (d .fields .total)) && leb (d .last) (d .fields .size)))
+    && (leb (d .stored) (d .fields .total) && (not (eqb (d .phase) loading && allStored (d .stored) (d .fields .total)) && leb (d .last) (d .fields .size)))
 
 -- 29 where it fails: phase, kept code and version texts, and from phase 1 on the download
 unfoldable pub recordOk : Device → Bool
@@ -91,8 +95,8 @@ unfoldable pub mapBytes : ℕ → ℕ
 mapBytes total = (total + 7) / 8
 
 -- 14 where it fails: in phases 1 to 3, image or map shorter than the download needs
-unfoldable pub roomOk : Device → (image map : List ℕ) → Bool
-roomOk d image map =
+unfoldable pub memoryOk : Device → (image map : List ℕ) → Bool
+memoryOk d image map =
     pick (holding (d .phase))
     (leb (d .fields .size * d .fields .total) (length image) && leb (mapBytes (d .fields .total)) (length map))
     true
@@ -104,13 +108,13 @@ abbrev pub receiveRefusal : Device → (condition : ℕ) (image map reply : List
 receiveRefusal d condition image map reply =
     refusal
     ((shortReply, leb deviceRoom (length reply)) ∷ (unknownCondition, conditionOk condition) ∷ (badRecord, recordOk d)
-    ∷ (badMemory, roomOk d image map)
+    ∷ (badMemory, memoryOk d image map)
     ∷ [])
 
 -- the next message is asked for
 abbrev pub askRefusal : Device → (image map reply : List ℕ) → ℕ
 askRefusal d image map reply =
-    refusal ((shortReply, leb deviceRoom (length reply)) ∷ (badRecord, recordOk d) ∷ (badMemory, roomOk d image map) ∷ [])
+    refusal ((shortReply, leb deviceRoom (length reply)) ∷ (badRecord, recordOk d) ∷ (badMemory, memoryOk d image map) ∷ [])
 
 -- the installer's end
 abbrev pub finishRefusal : Device → (code : ℕ) → ℕ

@@ -2,8 +2,8 @@
 // else 0.
 use crate::Device;
 use crate::record::condition_ok;
+use crate::record::memory_ok;
 use crate::record::record_ok;
-use crate::record::room_ok;
 use basis::number::BAD_INSTALL_CODE;
 use basis::number::BAD_MEMORY;
 use basis::number::BAD_RECORD;
@@ -16,14 +16,14 @@ ghost use mathlib.Core.Path.{_≡_};
 ghost use mathlib.Core.List.{[], _∷_};
 ghost use Rattle.basis.specs.Choice.{refusal};
 ghost use Rattle.basis.specs.Numbers.{badMemory, badRecord};
-ghost use Rattle.device_record.specs.Record.{recordOk, roomOk, receiveRefusal, askRefusal, finishRefusal};
+ghost use Rattle.device_record.specs.Record.{recordOk, memoryOk, receiveRefusal, askRefusal, finishRefusal};
 
 // The record and the buffers that are lent.
 fn lent(device: Device, image: &[u8], map: &[u8]) -> u8
-    ensures { λ r. ⌜ r ≡ refusal ((badRecord, recordOk device) ∷ (badMemory, roomOk device (now (image .entry)) (now (map .entry))) ∷ []) ⌝ }
+    ensures { λ r. ⌜ r ≡ refusal ((badRecord, recordOk device) ∷ (badMemory, memoryOk device (now (image .entry)) (now (map .entry))) ∷ []) ⌝ }
 {
     let kept = record_ok(device);
-    let held = room_ok(device, image, map);
+    let held = memory_ok(device, image, map);
     unless(kept, BAD_RECORD, unless(held, BAD_MEMORY, HANDLED))
 }
 

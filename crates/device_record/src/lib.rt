@@ -1,6 +1,7 @@
 // The record of the device ("head" in 01): how it is made, whether it keeps the rules, and what each
 // call is refused for before anything is done.
 use basis::number::BAD_VERSION_TEXT;
+use basis::number::HANDLED;
 use message::Fields;
 use message::ToGateway;
 ghost use mathlib.Core.Path.{_≡_};
@@ -17,8 +18,8 @@ pub use record::condition_ok;
 pub use record::holding;
 pub use record::in_phase;
 pub use record::map_bytes;
+pub use record::memory_ok;
 pub use record::record_ok;
-pub use record::room_ok;
 pub use record::with_fragment;
 pub use record::with_outcome;
 
@@ -74,7 +75,7 @@ impl Device {
     {
         if message::good_version(version) {
             Made {
-                number: 0,
+                number: HANDLED,
                 device: record::fresh(version),
             }
         } else {

@@ -6,7 +6,7 @@ ghost use mathlib.Core.Path.{_≡_};
 ghost use lib.Dec.{eqb};
 ghost use Rattle.basis.specs.Choice.{pick};
 ghost use Rattle.device_record.specs.Record.{fresh, inPhase, begun, withFragment, withOutcome, holding, conditionOk, downloadOk, recordOk, mapBytes};
-ghost use Rattle.device_record.specs.Record.{roomOk};
+ghost use Rattle.device_record.specs.Record.{memoryOk};
 
 // Idle, with a version that runs and is the target too.
 pub(crate) fn fresh(version: [u8; 16]) -> Device
@@ -124,8 +124,8 @@ pub fn map_bytes(total: u16) -> usize
 }
 
 // Image and map hold the download that the record speaks of.
-pub fn room_ok(device: Device, image: &[u8], map: &[u8]) -> bool
-    ensures { λ r. ⌜ r ≡ roomOk device (now (image .entry)) (now (map .entry)) ⌝ }
+pub fn memory_ok(device: Device, image: &[u8], map: &[u8]) -> bool
+    ensures { λ r. ⌜ r ≡ memoryOk device (now (image .entry)) (now (map .entry)) ⌝ }
 {
     let fields = device.fields;
     let total = fields.total;

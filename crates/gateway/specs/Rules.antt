@@ -5,7 +5,7 @@ use mathlib.Core.List.{List, []}
 use lib.Dec.{eqb}
 use lib.ListN.{length}
 use Rattle.basis.specs.Choice.{pick}
-use Rattle.basis.specs.Numbers.{noUse}
+use Rattle.basis.specs.Numbers.{handled, noUse}
 use Rattle.basis.specs.Bytes.{over}
 use Rattle.message.specs.Messages.{DeviceMessage, query, announce, fragment, downloadReply, execute, resultReply, GatewayMessage, queryReply, announceReply}
 use Rattle.message.specs.Messages.{fragmentRequest, downloadReport, executeReply, resultReport, Reading, found, refused, toDevice, toGateway}
@@ -34,34 +34,40 @@ module _ (g : Gateway) (content reply : List ℕ) where
 
   -- handled, with no reply
   abbrev pub moved : Gateway → After
-  moved h = record { number = 0; length = 0; gateway = h; reply = reply }
+  moved h = record { number = handled; length = 0; gateway = h; reply = reply }
 
   -- handled, with a reply at the front of its buffer
   abbrev pub replied : Gateway → DeviceMessage → After
-  replied h m = record { number = 0; length = length (bytesOf toDevice m); gateway = h; reply = over (bytesOf toDevice m) reply }
+  replied h m = record { number = handled; length = length (bytesOf toDevice m); gateway = h; reply = over (bytesOf toDevice m) reply }
 
   -- ---- the six messages
 
+  -- 19 answer in Ask: ends with 1, or Offer
   unfoldable pub onQueryReply : (version : List ℕ) → After
   onQueryReply version = pick (eqb (g .phase) ask) (moved (afterQuery g version)) (refuse noUse)
 
+  -- 20 answer in Offer: 00 to Serve, else ends with 2
   unfoldable pub onAnnounceReply : (result : ℕ) → After
   onAnnounceReply result =
       pick (eqb (g .phase) offer) (moved (pick (eqb result 0x00) (inPhase serve g) (endedWith notAccepted g))) (refuse noUse)
 
+  -- 21, any phase: a fragment or why there is none
   unfoldable pub onFragmentRequest : (version : List ℕ) (index : ℕ) → After
   onFragmentRequest version index = replied g (fragmentReply g content version index)
 
+  -- 22 in Serve: 00 to Run, other codes end with 3, reply 00; in Run: reply 00; else 80
   unfoldable pub onDownloadReport : (result : ℕ) → After
   onDownloadReport result =
       pick (eqb (g .phase) serve) (replied (pick (eqb result 0x00) (inPhase run g) (endedWith downloadFailed g)) (downloadReply 0x00))
       (pick (eqb (g .phase) run) (replied g (downloadReply 0x00))
       (replied g (downloadReply 0x80)))
 
+  -- 23 answer in Run: 00 changes nothing, else ends with 4
   unfoldable pub onExecuteReply : (result : ℕ) → After
   onExecuteReply result =
       pick (eqb (g .phase) run) (moved (pick (eqb result 0x00) g (endedWith notExecuted g))) (refuse noUse)
 
+  -- 24 in Run: ends with 0 or 5, reply 00; other phases 80
   unfoldable pub onResultReport : (result : ℕ) (version : List ℕ) → After
   onResultReport result version =
       pick (eqb (g .phase) run)
@@ -82,7 +88,7 @@ module _ (g : Gateway) (content reply : List ℕ) where
   unfoldable pub receiveOf : (supported pcp : Bool) (message : List ℕ) → After
   receiveOf supported pcp message =
       let n : ℕ = callRefusal g (length content) (length reply) in
-      pick (eqb n 0) (handle (readOf toGateway supported pcp message)) (refuse n)
+      pick (eqb n handled) (handle (readOf toGateway supported pcp message)) (refuse n)
 
 -- ---- asking for the next message: 19, 20, nothing, 23, nothing
 
@@ -97,4 +103,4 @@ wanted g =
 unfoldable pub nextMessageOf : Gateway → (content reply : List ℕ) → Sent
 nextMessageOf g content reply =
     let n : ℕ = callRefusal g (length content) (length reply) in
-    said toDevice (pick (eqb n 0) (wanted g) (refused n)) reply
+    said toDevice (pick (eqb n handled) (wanted g) (refused n)) reply

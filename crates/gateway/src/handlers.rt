@@ -33,7 +33,7 @@ fn by_result(result: u8, good: Gateway, bad: Gateway) -> Gateway
     if result == 0x00 { good } else { bad }
 }
 
-// 19 answer in Ask.
+// 19 answer in Ask: the target already runs, which ends with 1, else Offer.
 pub(crate) fn on_query_reply(gateway: Gateway, message: ToGateway, version: [u8; 16]) -> Answer
     ensures { λ r. ⌜ ((result : ℕ) → message ≡ ToGateway.QueryReply result → (content reply : List ℕ) → afterCall r reply
         ≡ onQueryReply gateway content reply version) ⌝ }

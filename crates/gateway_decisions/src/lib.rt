@@ -1,5 +1,5 @@
-// What the gateway decides of the messages that it is given: each test of 01's "The gateway" by
-// itself, over the record and plain values. Nothing is written here.
+// What the gateway decides of the messages that it is given: the tests of 19, 21 and 24 (01, "The
+// gateway"), each by itself, over the record and plain values. Nothing is written here.
 use basis::pick;
 use gateway_record::Gateway;
 use gateway_record::ended_with;

@@ -62,10 +62,13 @@ lengthOk length size = leb 1 length && leb length (totalMax * size)
 unfoldable pub fragmentOf : List ℕ → (size index : ℕ) → List ℕ
 fragmentOf content size index = take size (drop (index * size) content)
 
--- the four fields of a package of that length; a package that 19 refuses has no total, 0
+-- the total that is announced; a package that 19 refuses has none, 0
+abbrev pub announcedTotal : (length size : ℕ) → ℕ
+announcedTotal length size = pick (lengthOk length size) (totalOf length size) 0
+
+-- the four fields of a package of that length
 abbrev pub packageFields : (version : List ℕ) (size length code : ℕ) → Fields
-packageFields version size length code =
-    record { version = version; size = size; total = pick (lengthOk length size) (totalOf length size) 0; code = code }
+packageFields version size length code = record { version = version; size = size; total = announcedTotal length size; code = code }
 
 -- ---- the ways in which a record is made; no rule makes one otherwise
 

@@ -7,7 +7,7 @@ ghost use Rattle.basis.specs.Choice.{pick};
 ghost use Rattle.basis.specs.Stretch.{Stretch};
 ghost use Rattle.checksum.specs.Check.{checkOf};
 ghost use Rattle.message.specs.Limits.{sizeOk};
-ghost use Rattle.gateway_record.specs.Record.{totalOf, lengthOk, packageFields};
+ghost use Rattle.gateway_record.specs.Record.{lengthOk, announcedTotal, packageFields};
 
 // The fragment size is in range.
 pub fn size_ok(size: u16) -> bool
@@ -24,8 +24,8 @@ pub fn length_ok(length: usize, size: u16) -> bool
 }
 
 // The number of fragments: length over size, rounded up. A package that 19 refuses has none, 0.
-pub fn total_of(length: usize, size: u16) -> u16
-    ensures { λ r. ⌜ r ≡ pick (lengthOk length size) (totalOf length size) 0 ⌝ }
+pub fn announced_total(length: usize, size: u16) -> u16
+    ensures { λ r. ⌜ r ≡ announcedTotal length size ⌝ }
 {
     if !length_ok(length, size) {
         return 0;
@@ -48,7 +48,7 @@ pub fn package_fields(version: [u8; 16], size: u16, length: usize, code: u16) ->
     Fields {
         version,
         size,
-        total: total_of(length, size),
+        total: announced_total(length, size),
         code,
     }
 }

@@ -21,11 +21,11 @@ pub fn starting(version: [u8; 16], size: u16, length: usize) -> u8
 {
     let text = message::good_version(version);
     let sized = size_ok(size);
-    let held = length_ok(length, size);
+    let long = length_ok(length, size);
     unless(
         text,
         BAD_VERSION_TEXT,
-        unless(sized, BAD_SIZE, unless(held, BAD_PACKAGE, HANDLED)),
+        unless(sized, BAD_SIZE, unless(long, BAD_PACKAGE, HANDLED)),
     )
 }
 

@@ -10,11 +10,11 @@ mod fragments;
 mod guards;
 mod record;
 
+pub use fragments::announced_total;
 pub use fragments::fragment;
 pub use fragments::length_ok;
 pub use fragments::package_fields;
 pub use fragments::size_ok;
-pub use fragments::total_of;
 pub use guards::calling;
 pub use guards::starting;
 pub use record::ended_with;

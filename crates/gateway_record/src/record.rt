@@ -1,9 +1,9 @@
 // The record of the gateway: the ways in which it is made, and whether it keeps the rules (29).
 use crate::Gateway;
+use crate::fragments::announced_total;
 use crate::fragments::length_ok;
 use crate::fragments::package_fields;
 use crate::fragments::size_ok;
-use crate::fragments::total_of;
 ghost use mathlib.Core.Path.{_≡_};
 ghost use Rattle.gateway_record.specs.Record.{started, inPhase, endedWith, recordOk};
 
@@ -46,7 +46,7 @@ pub fn record_ok(gateway: Gateway) -> bool
     let version = fields.version;
     let size = fields.size;
     let length = gateway.length;
-    let total = total_of(length, size);
+    let total = announced_total(length, size);
     ((gateway.phase <= Gateway::ENDED) & (gateway.ending <= Gateway::UPGRADE_FAILED))
         & (message::good_version(version)
             & (size_ok(size) & (length_ok(length, size) & (fields.total == total))))

@@ -15,7 +15,7 @@ pub record DeviceTexts (d : Device) : Type 0 where
   pub running : length (d .running) ≡ 16
   pub target : length (d .fields .version) ≡ 16
 
--- and the gateway's total is the one that follows from size and length, as every call leaves it
+-- and the gateway's total is the one that follows from size and length, as a start makes it and every call keeps it
 pub record GatewayWhole (g : Gateway) : Type 0 where
   pub target : length (g .fields .version) ≡ 16
   pub fields : g .fields ≡ packageFields (g .fields .version) (g .fields .size) (g .length) (g .fields .code)

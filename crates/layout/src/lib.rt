@@ -24,15 +24,15 @@ const OUTCOME: usize = LAST + 2;
 pub const DEVICE_LENGTH: usize = OUTCOME + 1;
 
 // And of the gateway's: phase and ending number first.
-const VERSION: usize = 2;
+const GATEWAY_VERSION: usize = 2;
 
-const SIZE: usize = VERSION + Fields::VERSION_LENGTH;
+const GATEWAY_SIZE: usize = GATEWAY_VERSION + Fields::VERSION_LENGTH;
 
-const PACKAGE: usize = SIZE + 2;
+const GATEWAY_PACKAGE_LENGTH: usize = GATEWAY_SIZE + 2;
 
-const CODE: usize = PACKAGE + 8;
+const GATEWAY_CODE: usize = GATEWAY_PACKAGE_LENGTH + 8;
 
-pub const GATEWAY_LENGTH: usize = CODE + 2;
+pub const GATEWAY_LENGTH: usize = GATEWAY_CODE + 2;
 
 // The device's record that stands at the front of the bytes. A byte that is not there counts as 0.
 pub fn device_at(bytes: &[u8]) -> Device
@@ -89,10 +89,10 @@ pub fn keep_device(buffer: &mut [u8], device: Device)
 fn length_at(bytes: &[u8]) -> usize
     ensures { λ r. ⌜ r ≡ longAt (now (bytes .entry)) 20 ⌝ }
 {
-    let a = basis::word_at(bytes, PACKAGE) as usize;
-    let b = basis::word_at(bytes, PACKAGE + 2) as usize;
-    let c = basis::word_at(bytes, PACKAGE + 4) as usize;
-    let d = basis::word_at(bytes, PACKAGE + 6) as usize;
+    let a = basis::word_at(bytes, GATEWAY_PACKAGE_LENGTH) as usize;
+    let b = basis::word_at(bytes, GATEWAY_PACKAGE_LENGTH + 2) as usize;
+    let c = basis::word_at(bytes, GATEWAY_PACKAGE_LENGTH + 4) as usize;
+    let d = basis::word_at(bytes, GATEWAY_PACKAGE_LENGTH + 6) as usize;
     ((a * 65536 + b) * 65536 + c) * 65536 + d
 }
 
@@ -101,10 +101,10 @@ fn length_at(bytes: &[u8]) -> usize
 pub fn gateway_at(bytes: &[u8]) -> Gateway
     ensures { λ r. ⌜ r ≡ gatewayAt (now (bytes .entry)) ⌝ }
 {
-    let version = message::version_at(bytes, VERSION);
-    let size = basis::word_at(bytes, SIZE);
+    let version = message::version_at(bytes, GATEWAY_VERSION);
+    let size = basis::word_at(bytes, GATEWAY_SIZE);
     let length = length_at(bytes);
-    let code = basis::word_at(bytes, CODE);
+    let code = basis::word_at(bytes, GATEWAY_CODE);
     let fields = gateway_record::package_fields(version, size, length, code);
     Gateway {
         phase: basis::byte_at(bytes, 0),
@@ -153,13 +153,13 @@ fn put_gateway(buffer: &mut [u8], gateway: Gateway)
     requires { ⌜ gatewayLength ≤ length (now buffer) ⌝ }
     ensures { λ _. ⌜ now (buffer .exit) ≡ over (gatewayBytes gateway) (now (buffer .entry)) ⌝ }
 {
-    let head = [gateway.phase, gateway.ending];
+    let front = [gateway.phase, gateway.ending];
     let fields = gateway.fields;
     let version = fields.version;
     let rest = gateway_rest(fields.size, gateway.length, fields.code);
-    basis::put(buffer, 0, &head);
-    basis::put(buffer, VERSION, &version);
-    basis::put(buffer, SIZE, &rest);
+    basis::put(buffer, 0, &front);
+    basis::put(buffer, GATEWAY_VERSION, &version);
+    basis::put(buffer, GATEWAY_SIZE, &rest);
 }
 
 // The gateway's record as a call returned it, with whatever number; written only where there is room

@@ -1,4 +1,4 @@
--- 01's limits, each named once. Assumes nothing.
+-- 01's limits of sizes, totals, WORDs and buffers, each named once. Assumes nothing.
 use Prim.Native.Nat.{ℕ, _+_}
 use mathlib.Core.Bool.{Bool, _&&_}
 use lib.Dec.{leb, ltb}

@@ -12,7 +12,7 @@ use Rattle.message.specs.declared.Fields.{Fields}
 
 -- ---- the four fields of a package: version, size, total, check code
 
--- one behind the other, 22 bytes, as the announcement and the records hold them
+-- one behind the other, 22 bytes, as the announcement and the device's record hold them
 abbrev pub fieldsBytes : Fields → List ℕ
 fieldsBytes f = f .version ++ (wordBytes (f .size) ++ (wordBytes (f .total) ++ wordBytes (f .code)))
 

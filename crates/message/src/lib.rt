@@ -66,6 +66,6 @@ pub enum ToGateway {
 }
 
 impl ToGateway {
-    // The least buffer of the device, which sends these.
-    pub const ROOM: usize = 26;
+    // The least buffer of the device, which sends these: its longest message is a fragment request.
+    pub const ROOM: usize = 8 + Fields::VERSION_LENGTH + 2;
 }

@@ -4,6 +4,7 @@ use basis::number::BAD_CODE;
 use basis::number::BAD_LENGTH;
 use basis::number::BAD_START;
 use basis::number::BAD_VERSION;
+use basis::number::HANDLED;
 use basis::number::OTHER_PROTOCOL;
 use basis::number::UNSUPPORTED;
 ghost use mathlib.Core.Path.{_≡_};
@@ -75,5 +76,5 @@ pub fn recognise(supported: bool, pcp: bool, message: &[u8]) -> u8
     if !length_holds(message) {
         return BAD_LENGTH;
     }
-    0
+    HANDLED
 }

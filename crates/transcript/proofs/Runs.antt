@@ -12,7 +12,7 @@ use Rattle.basis.proofs.Choosing.{pick-yes, pick-no}
 use Rattle.device.specs.declared.Answer.{Answer}
 use Rattle.device.specs.Rules.{After}
 use Rattle.device.specs.Answers.{afterCall}
-use Rattle.capture.specs.Capture.{Item, itemAt, placeAfter, headLength}
+use Rattle.capture.specs.Capture.{Item, itemAt, placeAfter, headerLength}
 use Rattle.capture.proofs.Steps.{Found, is-found}
 use Rattle.transcript.specs.declared.Turn.{Turn}
 use Rattle.transcript.specs.Transcript.{captureMost, replyLength, after, printed, goesOn, textFrom, lineMost, outRoom}
@@ -31,7 +31,7 @@ printed-fits number (Item.fault fault) t e = length-fault fault
 
 -- a record takes four bytes or more, and ends within the capture
 pub record Past (capture : List ℕ) (at next : ℕ) : Type 0 where
-  pub past : at + headLength ≤ next
+  pub past : at + headerLength ≤ next
   pub within : next ≤ length capture
 
 pub past-record : (capture : List ℕ) (at : ℕ) (item : Item) → itemAt capture at ≡ item → goesOn item ≡ true → Past capture at (placeAfter item at)
@@ -64,7 +64,7 @@ module _ (capture : List ℕ) where
   pub record Reached (before : List ℕ) (s₀ : After) (answer : Answer) (image map reply now : List ℕ) (at end number : ℕ) : Type 0 where
     pub left : Remaining (textFrom capture all 0 0 s₀) before 0 (textFrom capture (all - number) number at (afterCall answer image map reply)) now end
     pub place : at ≤ length capture
-    pub written : headLength * end ≤ lineMost * at
+    pub written : headerLength * end ≤ lineMost * at
     pub counted : number ≤ all
     pub buffer : length reply ≡ replyLength
 

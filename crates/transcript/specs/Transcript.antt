@@ -10,7 +10,7 @@ use Rattle.basis.specs.Bytes.{over}
 use Rattle.device_record.specs.declared.Device.{Device}
 use Rattle.device_record.specs.Record.{newOf}
 use Rattle.device.specs.Rules.{After, receiveOf}
-use Rattle.capture.specs.Capture.{Item, headLength, itemAt, placeAfter, partOf}
+use Rattle.capture.specs.Capture.{Item, headerLength, itemAt, placeAfter, partOf}
 use Rattle.transcript.specs.Text.{newline, numberText, lineText}
 
 -- at most 32,768 bytes of input
@@ -89,7 +89,7 @@ lineMost = 71
 
 -- the least buffer: a line for each record, which has four bytes or more, and one for 20 or 21
 abbrev pub outRoom : ℕ
-outRoom = lineMost * (captureMost / headLength + 1)
+outRoom = lineMost * (captureMost / headerLength + 1)
 
 -- how many bytes of the buffer are text, and the buffer
 pub record Replayed : Type 0 where

@@ -14,7 +14,7 @@ use Rattle.message.specs.Messages.{GatewayMessage, Reading, found, refused, toG
 use Rattle.codec.specs.Codec.{said}
 use Rattle.message.specs.declared.Fields.{Fields}
 use Rattle.device_record.specs.declared.Device.{Device}
-use Rattle.device_record.specs.Record.{idle, loading, installing, holding, inPhase, recordOk, roomOk}
+use Rattle.device_record.specs.Record.{idle, loading, installing, holding, inPhase, recordOk, memoryOk}
 use Rattle.device.specs.Rules.{After, announceResult, resumes, receiveOf, nextMessageOf, installFinishedOf}
 use Rattle.device.proofs.Holds.{Rule}
 use Rattle.device.proofs.Views
@@ -73,8 +73,8 @@ module _ (d : Device) (image other map : List ℕ) where
   moves-lent input phase (Views.reported condition result i p e) = Views.reported condition result i p e
 
 -- in Loading, the room that 14 tests
-loading-room : (d : Device) (image map : List ℕ) → roomOk d image map ≡ true → d .phase ≡ loading → d .fields .size * d .fields .total ≤ length image
-unfolding roomOk holding
+loading-room : (d : Device) (image map : List ℕ) → memoryOk d image map ≡ true → d .phase ≡ loading → d .fields .size * d .fields .total ≤ length image
+unfolding memoryOk holding
 loading-room d image map e p = leb-true _ _ (and-left _ _ (sym (pick-yes _ _ true (rw p refl)) ∙ e))
 
 -- what is taken up afresh is taken up from Idle too
@@ -95,7 +95,7 @@ begins-idle d image map condition f b =
 
 -- ---- the calls
 
-kept-does : (d : Device) (image map : List ℕ) (input : Views.Input) (o : Views.Out) → Views.Does d image map input o → roomOk d image map ≡ true
+kept-does : (d : Device) (image map : List ℕ) (input : Views.Input) (o : Views.Out) → Views.Does d image map input o → memoryOk d image map ≡ true
     → Kept d map → Kept (o .device) (o .map)
 kept-does d image map input o (Views.still n says x e) room k = rw e k
 kept-does d image map input o (Views.begins condition f i b e) room k =
@@ -121,9 +121,9 @@ pub kept-given : (d : Device) (image map reply : List ℕ) (supported pcp : Bool
     → let a : After = receiveOf d image map reply supported pcp condition message in
     Kept (a .device) (a .map)
 unfolding receiveOf
-kept-given d image map reply supported pcp condition message k = at (roomOk d image map) refl
+kept-given d image map reply supported pcp condition message k = at (memoryOk d image map) refl
   where
-    at : (t : Bool) → roomOk d image map ≡ t
+    at : (t : Bool) → memoryOk d image map ≡ t
         → let a : After = receiveOf d image map reply supported pcp condition message in
         Kept (a .device) (a .map)
     at true e = kept-does d image map _ _ (receive-does d image map reply supported pcp condition message) e k
@@ -146,8 +146,8 @@ Unmet (refused n) = Not29 n
 
 module _ (d : Device) (image map reply : List ℕ) where
   -- the tests from 29 on
-  tests-unmet : recordOk d ≡ true → Not29 (refusal ((29, recordOk d) ∷ (14, roomOk d image map) ∷ []))
-  tests-unmet e = rw (passes 29 (recordOk d) ((14, roomOk d image map) ∷ []) e) (refusal-among Not29 _ (omega arith) (omega arith))
+  tests-unmet : recordOk d ≡ true → Not29 (refusal ((29, recordOk d) ∷ (14, memoryOk d image map) ∷ []))
+  tests-unmet e = rw (passes 29 (recordOk d) ((14, memoryOk d image map) ∷ []) e) (refusal-among Not29 _ (omega arith) (omega arith))
 
   pub given-unmet : (supported pcp : Bool) (condition : ℕ) (message : List ℕ) → recordOk d ≡ true
       → Not29 (receiveOf d image map reply supported pcp condition message .number)
@@ -164,9 +164,9 @@ module _ (d : Device) (image map reply : List ℕ) where
   -- where 14 passes, what is said does not depend on the image
   pub asked-unmet : Kept d map → Not29 (nextMessageOf d image map reply .number)
   unfolding nextMessageOf refusal
-  asked-unmet k = at (roomOk d image map) refl
+  asked-unmet k = at (memoryOk d image map) refl
     where
-      at : (t : Bool) → roomOk d image map ≡ t → Not29 (nextMessageOf d image map reply .number)
+      at : (t : Bool) → memoryOk d image map ≡ t → Not29 (nextMessageOf d image map reply .number)
       at true e = rw (e, sym (sound-room free d (k .image) map (k .sound))) (ask-neither free d (k .image) map (k .sound) reply .0)
       at false e =
           said-unmet _

@@ -97,7 +97,7 @@ module _ (s : Setting) where
       good : device.recordOk (e .device) ≡ true
       good = sound-record (standing any) (e .device) (e .image) (e .map) (here .sound)
 
-      fits : device.roomOk (e .device) (e .image) (e .map) ≡ true
+      fits : device.memoryOk (e .device) (e .image) (e .map) ≡ true
       fits = sound-room (standing any) (e .device) (e .image) (e .map) (here .sound)
 
       -- it is asked

@@ -40,7 +40,7 @@ unfolding pick refusal oneOf part same over patched doubled entryOf step registe
     allZero goodVersion startHolds versionByteHolds codeHolds checkHolds lengthHolds recognition deviceRow fragmentOk
     deviceFields gatewayRow installCode gatewayFields sealed frame bytesOf readOf writeOf said marked mark cleared
     missingFrom lowestMissing device-record.holding device-record.conditionOk device-record.newOf device-record.downloadOk
-    device-record.recordOk device-record.mapBytes device-record.roomOk device.begin device.store device.onQuery device.onAnnounce
+    device-record.recordOk device-record.mapBytes device-record.memoryOk device.begin device.store device.onQuery device.onAnnounce
     device.onFragment device.onDownloadReply device.onExecute device.onResultReply device.handle device.receiveOf device.wanted
     device.nextMessageOf device.installFinishedOf device.announceResult device.sameFields device.resumes device.fragmentLength device.fragmentNumber
     device.passes

@@ -1,11 +1,12 @@
 -- What demand 3 claims of runs, whatever their ends keep: 01, "Runs of demand 3". Assumes nothing.
-use Prim.Native.Nat.{ℕ, _+_, _*_, _-_}
+use Prim.Native.Nat.{ℕ}
 use mathlib.Core.Path.{_≡_}
 use mathlib.Core.List.{List, [], _∷_, _++_}
 use lib.ListN.{length, take, drop}
 use Rattle.message.specs.Messages.{execute, executeReply, found, toDevice, toGateway}
 use Rattle.codec.specs.Codec.{bytesOf, readOf}
 use Rattle.device_record.specs.declared.Device.{Device}
+use Rattle.device_decisions.specs.Decisions.{trueLength}
 use Rattle.gateway_record.specs.Record as gateway
 use Rattle.upgrade.specs.Fold.{after, Allowed}
 use Rattle.upgrade.specs.Calls.{given, asked, finished, Call, atDevice, atGateway, Ends, Both, next, May}
@@ -33,7 +34,7 @@ module _ (e : Ends) where
 
   -- It has recorded success: Ended with ending number 0.
   abbrev pub Success : Both e → Type 0
-  Success w = Ended w × (e .gateway .gateway (w .gateway) .ending ≡ 0)
+  Success w = Ended w × (e .gateway .gateway (w .gateway) .ending ≡ gateway.success)
 
   module _ (start : Both e) where
     abbrev pub reached : List (Call (e .Fact)) → Both e
@@ -69,7 +70,7 @@ module _ (e : Ends) where
       ExecutedLength calls =
           (earlier : List (Call (e .Fact))) (last : Call (e .Fact)) → calls ≡ earlier ++ (last ∷ []) → Executed (reached earlier) last →
           let d : Device = e .device .device (reached calls .deviceEnd) in
-          d .fields .size * (d .fields .total - 1) + d .last ≡ length content
+          trueLength (d .fields) (d .last) ≡ length content
 
       -- The history of a success, with what stood in the image when Execute was answered 00: the package, and nothing else was changed.
       pub record UpgradedBefore (calls : List (Call (e .Fact))) : Type 0 where

@@ -4,6 +4,7 @@ use mathlib.Core.Path.{_≡_}
 use mathlib.Core.Bool.{true, false}
 use mathlib.Core.List.{List, [], _∷_}
 use lib.ListN.{length}
+use Rattle.basis.specs.Numbers.{noUse}
 use Rattle.basis.specs.Bytes.{same}
 use Rattle.message.specs.Limits.{deviceRoom, gatewayRoom}
 use Rattle.device_record.specs.Record.{idle, mapBytes}
@@ -60,8 +61,8 @@ module _ (e : Ends) (affirmed : e .Fact) (deviceReply gatewayReply : Both e → 
 
   -- the device is asked until it has nothing to send, which is 9
   pub data UntilSilent : Both e → Both e → Type 0 where
-    silent : {w : Both e} → askedNumber w ≡ 9 → UntilSilent w w
-    spoken : {w v : Both e} → (askedNumber w ≡ 9 → ⊥) → UntilSilent (deviceAsked w) v → UntilSilent w v
+    silent : {w : Both e} → askedNumber w ≡ noUse → UntilSilent w w
+    spoken : {w v : Both e} → (askedNumber w ≡ noUse → ⊥) → UntilSilent (deviceAsked w) v → UntilSilent w v
 
   -- the gateway is asked once in Run, the installer reports 00, the device is asked once more
   abbrev pub ending : Both e → Both e

@@ -5,8 +5,9 @@ use Prim.Native.Nat.{ℕ, _≤_}
 use mathlib.Core.Path.{_≡_}
 use mathlib.Core.Bool.{true}
 use mathlib.Core.List.{List, []}
+use Rattle.basis.specs.Numbers.{badMemory, badRecord}
 use Rattle.bitmap.specs.Bitmap.{setBits}
-use Rattle.device_record.specs.Record.{loading, reporting, newOf, recordOk, roomOk}
+use Rattle.device_record.specs.Record.{loading, reporting, newOf, recordOk, memoryOk}
 use Rattle.upgrade.specs.Fold.{after}
 use Rattle.upgrade.specs.Calls.{DeviceCall, DeviceSide}
 use Rattle.upgrade.specs.Records.{deviceRecords}
@@ -18,7 +19,7 @@ module _ {F : Type 0} (s : DeviceSide F) where
   pub record Counted (d : s .State) : Type 0 where
     pub count : loading ≤ s .device d .phase → s .device d .phase ≤ reporting → s .device d .stored ≡ setBits (s .map d) (s .device d .fields .total)
     pub record-holds : recordOk (s .device d) ≡ true
-    pub not-29 : (image : List ℕ) (c : DeviceCall F) → s .does (s .lend d image) c .number ≡ 29 → ⊥
+    pub not-29 : (image : List ℕ) (c : DeviceCall F) → s .does (s .lend d image) c .number ≡ badRecord → ⊥
 
   -- a call, lent an image of its own
   abbrev pub lentNext : s .State → (List ℕ × DeviceCall F) → s .State
@@ -31,8 +32,8 @@ module _ {F : Type 0} (s : DeviceSide F) where
 
   -- What holds of a device's record with image and map, as calls left them.
   pub record Roomy (d : s .State) : Type 0 where
-    pub room-holds : roomOk (s .device d) (s .image d) (s .map d) ≡ true
-    pub not-14 : (c : DeviceCall F) → s .does d c .number ≡ 14 → ⊥
+    pub room-holds : memoryOk (s .device d) (s .image d) (s .map d) ≡ true
+    pub not-14 : (c : DeviceCall F) → s .does d c .number ≡ badMemory → ⊥
 
   abbrev pub RoomOf : s .State → Type 0
   RoomOf made = (calls : List (DeviceCall F)) → Roomy (after (λ d c. s .does d c .state) made calls)

@@ -1,4 +1,4 @@
--- `capture::step_at` meets its contract: each return is one case of `stepAt`, by the tests that led there. Assumes nothing.
+-- `capture::step_at` meets its contract: each return is one case of `itemAt`, by the tests that led there. Assumes nothing.
 use borrow.Author.Needs.{needs}
 use mathlib.Core.Path.{sym, _∙_}
 use Rattle.capture.proofs.Steps.{ends, one-left, wrong-mark, cut-short, found}

@@ -13,8 +13,8 @@ returns : tie.Need-returns
 unfolding completion
 returns c = sym (pick-no _ _ _ (ne-eqb _ _ (c .if1 .taken)))
 
-end-of-requires : tie.Need-end-of-requires
-end-of-requires c κs = search needs
+true-length-requires : tie.Need-true-length-requires
+true-length-requires c κs = search needs
 
 least-requires : tie.Need-least-requires
 least-requires c κs = search needs
@@ -35,7 +35,7 @@ returns-2 : tie.Need-returns-2
 unfolding completion
 returns-2 c =
     let s = c .before .before .before .before .before .before .before in
-    let end = rw (c .before .before .before .before .end-of .ensures) at (c .before .before .before .least .ensures) in
+    let end = rw (c .before .before .before .before .true-length .ensures) at (c .before .before .before .least .ensures) in
     let tested = rw (sub-zero, take-least (s .args .image .now) _ _ end) at (c .before .passes .ensures) in
     sym (pick-yes _ _ _ (eq-eqb _ _ (c .before .before .before .before .before .if1 .left)) ∙ pick-yes _ _ _ (sym tested ∙ c .if2 .taken))
 
@@ -43,7 +43,7 @@ returns-3 : tie.Need-returns-3
 unfolding completion
 returns-3 c =
     let s = c .before .before .before .before .before .before .before in
-    let end = rw (c .before .before .before .before .end-of .ensures) at (c .before .before .before .least .ensures) in
+    let end = rw (c .before .before .before .before .true-length .ensures) at (c .before .before .before .least .ensures) in
     let tested = rw (sub-zero, take-least (s .args .image .now) _ _ end) at (c .before .passes .ensures) in
     sym (pick-yes _ _ _ (eq-eqb _ _ (c .before .before .before .before .before .if1 .left)) ∙ pick-no _ _ _ (sym tested ∙ c .if2 .left))
 
@@ -52,7 +52,7 @@ completion-spec =
     tie.close
     (tie.spec
     returns
-    end-of-requires
+    true-length-requires
     least-requires
     sub-passes
     part-passes-start

@@ -1,7 +1,7 @@
+-- `codec::read::device_candidate` meets its contract: the fields at their places, by the code; one path for each of the six codes. Assumes nothing.
 use mathlib.Core.Path.{ap}
 use Rattle.message.specs.Messages.{found}
 use Rattle.codec.proofs.Places.{device-query, device-announce, device-fragment, device-download, device-execute, device-result}
--- `codec::read::device_candidate` meets its contract: the fields at their places, by the code; one path for each of the six codes. Assumes nothing.
 use borrow.Author.Needs.{needs}
 use Rattle.codec.proofs.read.device_candidate.Statement.{statement}
 use Rattle.codec.proofs.read.device_candidate.Tie as tie

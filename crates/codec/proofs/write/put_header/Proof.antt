@@ -1,6 +1,6 @@
+-- `codec::write::put_header` meets its contract: the eight header bytes at the front, with check 0000. Assumes nothing.
 use mathlib.Core.Path.{_∙_}
 use Rattle.basis.proofs.Lists.{patched-front}
--- `codec::write::put_header` meets its contract: the eight header bytes at the front, with check 0000. Assumes nothing.
 use borrow.Author.Needs.{needs}
 use Rattle.codec.proofs.write.put_header.Statement.{statement}
 use Rattle.codec.proofs.write.put_header.Tie as tie

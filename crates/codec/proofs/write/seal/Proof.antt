@@ -1,7 +1,7 @@
+-- `codec::write::seal` meets its contract: the check of the message with its field as 0000, put into that field. Assumes nothing.
 use native.Mathlib.Omega.{arith}
 use lib.ListN.{length-set}
 use Rattle.codec.proofs.Writing.{sealed-in}
--- `codec::write::seal` meets its contract: the check of the message with its field as 0000, put into that field. Assumes nothing.
 use borrow.Author.Needs.{needs}
 use Rattle.codec.proofs.write.seal.Statement.{statement}
 use Rattle.codec.proofs.write.seal.Tie as tie

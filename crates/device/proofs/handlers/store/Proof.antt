@@ -17,13 +17,13 @@ put-requires c κs =
 mark-requires : tie.Need-mark-requires
 mark-requires c κs = search needs
 
-cast-last-length : tie.Need-cast-last-length
-cast-last-length c =
+cast-last-after : tie.Need-cast-last-after
+cast-last-after c =
     let s = c .before .before .before .before .before .before .before .before .before .before .before .before .before in
     omega (arith, content-short _ (s .args .image .now) (s .args .map .now) _ (s .args .content .now) (s .pre))
 
-last-length-requires : tie.Need-last-length-requires
-last-length-requires c κs = search needs
+last-after-requires : tie.Need-last-after-requires
+last-after-requires c κs = search needs
 
 add-stored : tie.Need-add-stored
 add-stored c =
@@ -51,7 +51,7 @@ returns c =
     let t = r .before .before .before .before .before .before .before in
     let s = t .before .before .before .before .before .before .before in
     λ reply. c .moved .ensures _ _ reply ∙ stored-all _ (s .args .image .now) (s .args .map .now) _ (s .args .content .now) _ _ _ _ _ _
-    (t .before .before .product .ensures) (t .put .ensures) (r .before .before .before .mark .ensures) (r .last-length .ensures)
+    (t .before .before .product .ensures) (t .put .ensures) (r .before .before .before .mark .ensures) (r .last-after .ensures)
     (c .before .before .completion .ensures) (c .before .with-fragment .ensures) reply
 
 pub store-spec : {M : Type 1} → statement M
@@ -61,8 +61,8 @@ store-spec =
     product-requires
     put-requires
     mark-requires
-    cast-last-length
-    last-length-requires
+    cast-last-after
+    last-after-requires
     add-stored
     completion-requires
     with-fragment-requires

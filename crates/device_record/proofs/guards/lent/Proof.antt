@@ -7,8 +7,8 @@ use Rattle.device_record.proofs.guards.lent.Tie as tie
 record-ok-requires : tie.Need-record-ok-requires
 record-ok-requires c κs = search needs
 
-room-ok-requires : tie.Need-room-ok-requires
-room-ok-requires c κs = search needs
+memory-ok-requires : tie.Need-memory-ok-requires
+memory-ok-requires c κs = search needs
 
 unless-requires : tie.Need-unless-requires
 unless-requires c κs = search needs
@@ -18,9 +18,9 @@ unless-requires-2 c κs = search needs
 
 returns : tie.Need-returns
 unfolding refusal
-returns c = rw (c .unless2 .ensures, c .before .unless .ensures, c .before .before .room-ok .ensures, c .before .before .before .record-ok .ensures)
+returns c = rw (c .unless2 .ensures, c .before .unless .ensures, c .before .before .memory-ok .ensures, c .before .before .before .record-ok .ensures)
 
 pub lent-spec : {M : Type 1} → statement M
 lent-spec =
     tie.close
-    (tie.spec record-ok-requires room-ok-requires unless-requires unless-requires-2 returns)
+    (tie.spec record-ok-requires memory-ok-requires unless-requires unless-requires-2 returns)

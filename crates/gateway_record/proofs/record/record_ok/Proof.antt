@@ -5,8 +5,8 @@ use Rattle.gateway_record.proofs.Records.{total-tested}
 use Rattle.gateway_record.proofs.record.record_ok.Statement.{statement}
 use Rattle.gateway_record.proofs.record.record_ok.Tie as tie
 
-total-of-requires : tie.Need-total-of-requires
-total-of-requires c κs = search needs
+announced-total-requires : tie.Need-announced-total-requires
+announced-total-requires c κs = search needs
 
 good-version-requires : tie.Need-good-version-requires
 good-version-requires c κs = search needs
@@ -23,7 +23,7 @@ returns c = rw (
   c .before .before .before .good-version .ensures,
   c .before .before .size-ok .ensures,
   c .before .length-ok .ensures,
-  c .before .before .before .before .before .before .total-of .ensures,
+  c .before .before .before .before .before .before .announced-total .ensures,
   total-tested (lengthOk (c .before .before .before .before .before .before .before .before .before .args .gateway .length)
       (c .before .before .before .before .before .before .before .before .before .args .gateway .fields .size))
       (c .before .before .before .before .before .before .before .before .before .args .gateway .fields .total)
@@ -34,4 +34,4 @@ returns c = rw (
 pub record-ok-spec : {M : Type 1} → statement M
 record-ok-spec =
     tie.close
-    (tie.spec total-of-requires good-version-requires size-ok-requires length-ok-requires returns)
+    (tie.spec announced-total-requires good-version-requires size-ok-requires length-ok-requires returns)

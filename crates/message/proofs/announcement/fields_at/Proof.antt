@@ -1,5 +1,5 @@
-use Rattle.message.proofs.FieldBytes.{fields-none}
 -- `message::fields_at` meets its contract: past the end there is nothing but 0; else each field is read at its place. Assumes nothing.
+use Rattle.message.proofs.FieldBytes.{fields-none}
 use borrow.Author.Needs.{needs}
 use Rattle.message.proofs.announcement.fields_at.Statement.{statement}
 use Rattle.message.proofs.announcement.fields_at.Tie as tie

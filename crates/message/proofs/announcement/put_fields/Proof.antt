@@ -1,9 +1,9 @@
+-- `message::put_fields` meets its contract: the WORDs are a patch where the version text ended. Assumes nothing.
 use Prim.Native.Nat.{_+_, _≤_}
 use native.Mathlib.Omega.{arith}
 use lib.ListN.{length}
 use mathlib.Core.Path.{_≡_}
 use Rattle.message.proofs.FieldBytes.{fields-put}
--- `message::put_fields` meets its contract: the WORDs are a patch where the version text ended. Assumes nothing.
 use borrow.Author.Needs.{needs}
 use Rattle.message.proofs.announcement.put_fields.Statement.{statement}
 use Rattle.message.proofs.announcement.put_fields.Tie as tie

@@ -1,4 +1,4 @@
--- `message::recognition::length_holds` meets its contract: the length WORD against the length less 8, which is 0 for a shorter message. Assumes
+-- `message::recognition::length_holds` meets its contract: the length WORD against the length less 8; it is asked of 8 bytes and more. Assumes
 -- nothing.
 use Rattle.message.specs.Recognition.{lengthHolds}
 use borrow.Author.Needs.{needs}

@@ -1,4 +1,4 @@
--- `gateway_record::fragments::total_of` meets its contract: what 19 does not refuse has a size, and a total that fits. Assumes nothing.
+-- `gateway_record::fragments::announced_total` meets its contract: what 19 does not refuse has a size, and a total that fits. Assumes nothing.
 use borrow.Author.Needs.{needs}
 use borrow.Author.Tests.{not-true, not-false}
 use mathlib.Core.Path.{sym, _∙_}
@@ -6,8 +6,8 @@ use native.Mathlib.Omega.{arith}
 use Rattle.basis.proofs.Choosing.{pick-yes, pick-no}
 use Rattle.gateway_record.specs.Record.{totalOf}
 use Rattle.gateway_record.proofs.Package.{length-range, total-most}
-use Rattle.gateway_record.proofs.fragments.total_of.Statement.{statement}
-use Rattle.gateway_record.proofs.fragments.total_of.Tie as tie
+use Rattle.gateway_record.proofs.fragments.announced_total.Statement.{statement}
+use Rattle.gateway_record.proofs.fragments.announced_total.Tie as tie
 
 length-ok-requires : tie.Need-length-ok-requires
 length-ok-requires c κs = search needs
@@ -44,7 +44,7 @@ returns-2 : tie.Need-returns-2
 unfolding totalOf
 returns-2 c = sym (pick-yes _ _ _ (sym (c .before .length-ok .ensures) ∙ not-false _ (c .if1 .left)))
 
-pub total-of-spec : {M : Type 1} → statement M
-total-of-spec =
+pub announced-total-spec : {M : Type 1} → statement M
+announced-total-spec =
     tie.close
     (tie.spec length-ok-requires returns sub-result add-result div-result cast-result returns-2)

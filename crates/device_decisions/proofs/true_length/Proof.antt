@@ -1,11 +1,11 @@
--- `device_decisions::end_of` meets its contract: the product and the sum stay in range. Assumes nothing.
+-- `device_decisions::true_length` meets its contract: the product and the sum stay in range. Assumes nothing.
 use borrow.Author.Needs.{needs}
 use Prim.Native.Nat.{_-_}
 use native.Mathlib.Omega.{arith}
 use native.Mathlib.Nat.{mul-zero, zero-add}
 use Rattle.basis.proofs.Lists.{words-product}
-use Rattle.device_decisions.proofs.end_of.Statement.{statement}
-use Rattle.device_decisions.proofs.end_of.Tie as tie
+use Rattle.device_decisions.proofs.true_length.Statement.{statement}
+use Rattle.device_decisions.proofs.true_length.Tie as tie
 
 returns : tie.Need-returns
 returns c = rw (c .if1 .taken, mul-zero, zero-add)
@@ -24,5 +24,5 @@ add-result c =
 returns-2 : tie.Need-returns-2
 returns-2 c = search needs
 
-pub end-of-spec : {M : Type 1} → statement M
-end-of-spec = tie.close (tie.spec returns sub-product product-requires add-result returns-2)
+pub true-length-spec : {M : Type 1} → statement M
+true-length-spec = tie.close (tie.spec returns sub-product product-requires add-result returns-2)
