@@ -113,6 +113,12 @@ changes =
     ((held 1 2 32 3 0x2C45 2 0, places 0x41 0x42 0, 0x03 ∷ []), fragment 0x00 2 (0x43 ∷ []), (held 4 2 32 3 0x2C45 3 1, filled, 0x07 ∷ [])) ∷
     -- an announcement afresh: its four fields, count and last length 0, its map bytes zeroed and no more
     ((holds 2 3 7, places 1 2 3, 0xFF ∷ 0xFF ∷ []), announce (fields 3 40 2 5), (held 1 3 40 2 5 0 0, places 1 2 3, 0x00 ∷ 0xFF ∷ [])) ∷
+    -- only the phase changes: 21 with 80 and with 81, 22, 23
+    ((holds 1 1 7, places 1 2 3, 0x02 ∷ []), fragment 0x80 0 [], (holds 0 1 7, places 1 2 3, 0x02 ∷ [])) ∷
+    ((holds 1 1 7, places 1 2 3, 0x02 ∷ []), fragment 0x81 0 [], (holds 1 1 7, places 1 2 3, 0x02 ∷ [])) ∷
+    ((holds 2 3 7, places 1 2 3, 0x07 ∷ []), downloadReply 0x00, (holds 3 3 7, places 1 2 3, 0x07 ∷ [])) ∷
+    ((holds 4 3 7, places 1 2 3, 0x07 ∷ []), downloadReply 0x80, (holds 0 3 7, places 1 2 3, 0x07 ∷ [])) ∷
+    ((holds 3 3 7, places 1 2 3, 0x07 ∷ []), execute, (holds 5 3 7, places 1 2 3, 0x07 ∷ [])) ∷
     -- resumed, and answered by another code: nothing changes
     ((held 2 2 32 3 5 3 7, places 1 2 3, 0xFF ∷ []), announce (fields 2 32 3 5), (held 2 2 32 3 5 3 7, places 1 2 3, 0xFF ∷ [])) ∷
     ((holds 2 3 7, places 1 2 3, 0xFF ∷ []), announce (fields 1 40 2 5), (holds 2 3 7, places 1 2 3, 0xFF ∷ [])) ∷

@@ -84,6 +84,13 @@ fives n = replicate n 0x55
 abbrev after : (number length : ℕ) → Gateway → List ℕ → After
 after number length g reply = record { number = number; length = length; gateway = g; reply = reply }
 
+-- 22 and 24 answered 00
+abbrev taken : List ℕ
+taken = 0xFF ∷ 0xFE ∷ 0x01 ∷ 0x16 ∷ 0x85 ∷ 0x0E ∷ 0x00 ∷ 0x01 ∷ 0x00 ∷ []
+
+abbrev concluded : List ℕ
+concluded = 0xFF ∷ 0xFE ∷ 0x01 ∷ 0x18 ∷ 0xAF ∷ 0xA1 ∷ 0x00 ∷ 0x01 ∷ 0x00 ∷ []
+
 -- 22 answered 80
 abbrev declined : List ℕ
 declined = 0xFF ∷ 0xFE ∷ 0x01 ∷ 0x16 ∷ 0x14 ∷ 0x86 ∷ 0x00 ∷ 0x01 ∷ 0x80 ∷ []
@@ -93,7 +100,15 @@ abbrev pub answers : List (ℕ × GatewayMessage × After)
 answers =
     (1, queryReply 0x00 (text 1), after 9 0 (offers 1 0) (fives 511)) ∷
     (0, queryReply 0x00 (text 1), after 0 0 (offers 1 0) (fives 511)) ∷
+    (0, queryReply 0x00 (text 2), after 0 0 (offers 4 1) (fives 511)) ∷
+    (1, announceReply 0x00, after 0 0 (offers 2 0) (fives 511)) ∷
+    (1, announceReply 0x03, after 0 0 (offers 4 2) (fives 511)) ∷
+    (2, downloadReport 0x00, after 0 9 (offers 3 0) (taken ++ fives 502)) ∷
+    (2, downloadReport 0x07, after 0 9 (offers 4 3) (taken ++ fives 502)) ∷
+    (3, executeReply 0x00, after 0 0 (offers 3 0) (fives 511)) ∷
     (3, executeReply 0x04, after 0 0 (offers 4 4) (fives 511)) ∷
+    (3, resultReport 0x00 (text 2), after 0 9 (offers 4 0) (concluded ++ fives 502)) ∷
+    (3, resultReport 0x00 (text 1), after 0 9 (offers 4 5) (concluded ++ fives 502)) ∷
     (0, downloadReport 0x00, after 0 9 (offers 0 0) (declined ++ fives 502)) ∷
     []
 
