@@ -2,14 +2,14 @@
 use Prim.Native.Nat.{ℕ, _*_, _≤_}
 use mathlib.Core.Path.{_≡_}
 use mathlib.Core.Bool.{true, false}
-use mathlib.Core.List.{List, [], _∷_}
+use mathlib.Core.List.{List}
 use lib.ListN.{length}
 use Rattle.basis.specs.Numbers.{noUse}
 use Rattle.basis.specs.Bytes.{same}
 use Rattle.message.specs.Limits.{deviceRoom, gatewayRoom}
 use Rattle.device_record.specs.Record.{idle, mapBytes}
 use Rattle.gateway_record.specs.Record as gateway
-use Rattle.upgrade.specs.Fold.{Allowed}
+use Rattle.upgrade.specs.Fold.{after, Allowed}
 use Rattle.upgrade.specs.Calls.{DeviceCall, given, asked, finished, GatewayCall, Call, atDevice, atGateway, Ends, Both, next, May}
 use Rattle.upgrade.specs.Records.{records, World}
 use Rattle.upgrade.specs.Claims.{Success, reached}
@@ -24,25 +24,21 @@ Reached e start here = (calls : List (Call (e .Fact))) × Allowed (next e) May s
 module _ (e : Ends) (affirmed : e .Fact) (deviceReply gatewayReply : Both e → List ℕ) where
   -- messages that arrive at an end; condition 0
   unfoldable pub arriveAtDevice : Both e → List (List ℕ) → Both e
-  arriveAtDevice w [] = w
-  arriveAtDevice w (m ∷ ms) = arriveAtDevice (next e w (atDevice (given affirmed affirmed 0 m (deviceReply w)))) ms
+  arriveAtDevice = after (λ w m. next e w (atDevice (given affirmed affirmed 0 m (deviceReply w))))
 
   unfoldable pub arriveAtGateway : Both e → List (List ℕ) → Both e
-  arriveAtGateway w [] = w
-  arriveAtGateway w (m ∷ ms) = arriveAtGateway (next e w (atGateway (GatewayCall.given affirmed affirmed m (gatewayReply w)))) ms
+  arriveAtGateway = after (λ w m. next e w (atGateway (GatewayCall.given affirmed affirmed m (gatewayReply w))))
 
   -- a message arrives and its reply, where there is one, comes back
   unfoldable pub answeredByDevice : Both e → List (List ℕ) → Both e
-  answeredByDevice w [] = w
-  answeredByDevice w (m ∷ ms) =
+  answeredByDevice = after (λ w m.
       let c : DeviceCall (e .Fact) = given affirmed affirmed 0 m (deviceReply w) in
-      answeredByDevice (arriveAtGateway (next e w (atDevice c)) (e .device .does (w .deviceEnd) c .says)) ms
+      arriveAtGateway (next e w (atDevice c)) (e .device .does (w .deviceEnd) c .says))
 
   unfoldable pub answeredByGateway : Both e → List (List ℕ) → Both e
-  answeredByGateway w [] = w
-  answeredByGateway w (m ∷ ms) =
+  answeredByGateway = after (λ w m.
       let c : GatewayCall (e .Fact) = GatewayCall.given affirmed affirmed m (gatewayReply w) in
-      answeredByGateway (arriveAtDevice (next e w (atGateway c)) (e .gateway .does (w .gateway) c .says)) ms
+      arriveAtDevice (next e w (atGateway c)) (e .gateway .does (w .gateway) c .says))
 
   -- an end is asked once
   unfoldable pub gatewayAsked : Both e → Both e
