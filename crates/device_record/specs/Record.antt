@@ -1,4 +1,4 @@
--- The device's record: 01, "The head" and number 29 of "Numbers returned". Assumes nothing.
+-- The device's record: 01, "The head" and of "Numbers returned" 29, 14, 17 and the order of refusals. Assumes nothing.
 use Prim.Native.Nat.{ℕ, _+_, _*_, _/_}
 use mathlib.Core.Bool.{Bool, true, _&&_, not}
 use mathlib.Core.List.{List, [], _∷_}
@@ -103,7 +103,7 @@ memoryOk d image map =
 
 -- ---- what each call is refused for before anything is done, in order
 
--- a message is given
+-- a message is given: 15, 13, 29, 14
 abbrev pub receiveRefusal : Device → (condition : ℕ) (image map reply : List ℕ) → ℕ
 receiveRefusal d condition image map reply =
     refusal
@@ -111,11 +111,11 @@ receiveRefusal d condition image map reply =
     ∷ (badMemory, memoryOk d image map)
     ∷ [])
 
--- the next message is asked for
+-- the next message is asked for: 15, 29, 14
 abbrev pub askRefusal : Device → (image map reply : List ℕ) → ℕ
 askRefusal d image map reply =
     refusal ((shortReply, leb deviceRoom (length reply)) ∷ (badRecord, recordOk d) ∷ (badMemory, memoryOk d image map) ∷ [])
 
--- the installer's end
+-- the installer's end: 29, 9, 16
 abbrev pub finishRefusal : Device → (code : ℕ) → ℕ
 finishRefusal d code = refusal ((badRecord, recordOk d) ∷ (noUse, eqb (d .phase) installing) ∷ (badInstallCode, installCode code) ∷ [])

@@ -27,7 +27,7 @@ fn lent(device: Device, image: &[u8], map: &[u8]) -> u8
     unless(kept, BAD_RECORD, unless(held, BAD_MEMORY, HANDLED))
 }
 
-// A message is given.
+// A message is given: 15, 13, 29, 14.
 pub fn receiving(device: Device, condition: u8, image: &[u8], map: &[u8], reply: &[u8]) -> u8
     ensures { λ r. ⌜ r ≡ receiveRefusal device condition (now (image .entry)) (now (map .entry)) (now (reply .entry)) ⌝ }
 {
@@ -40,7 +40,7 @@ pub fn receiving(device: Device, condition: u8, image: &[u8], map: &[u8], reply:
     )
 }
 
-// The next message is asked for.
+// The next message is asked for: 15, 29, 14.
 pub fn asking(device: Device, image: &[u8], map: &[u8], reply: &[u8]) -> u8
     ensures { λ r. ⌜ r ≡ askRefusal device (now (image .entry)) (now (map .entry)) (now (reply .entry)) ⌝ }
 {
@@ -48,7 +48,7 @@ pub fn asking(device: Device, image: &[u8], map: &[u8], reply: &[u8]) -> u8
     unless(room, SHORT_REPLY, lent(device, image, map))
 }
 
-// The installer's end.
+// The installer's end: 29, 9, 16.
 pub fn finishing(device: Device, code: u8) -> u8
     ensures { λ r. ⌜ r ≡ finishRefusal device code ⌝ }
 {

@@ -130,7 +130,7 @@ pub(crate) fn on_execute_reply(gateway: Gateway, message: ToGateway) -> Answer
     moved(by_result(result, gateway, ended_with(gateway, Gateway::NOT_EXECUTED)))
 }
 
-// 24 in Run: the end; the reply is 00. In other phases 80.
+// 24 in Run: ends with 0 or 5; the reply is 00. In other phases 80.
 pub(crate) fn on_result_report(
     gateway: Gateway,
     message: ToGateway,

@@ -28,7 +28,7 @@ pub fn serving(phase: u8) -> bool
     (phase == Gateway::SERVE) | (phase == Gateway::RUN)
 }
 
-// 21: what a request is answered with.
+// 21: 80 for another version or phase, 81 for an index past the last, else 00.
 pub fn fragment_result(phase: u8, fields: Fields, version: [u8; 16], index: u16) -> u8
     ensures { λ r. ⌜ r ≡ fragmentResult phase fields version index ⌝ }
 {
@@ -37,7 +37,7 @@ pub fn fragment_result(phase: u8, fields: Fields, version: [u8; 16], index: u16)
     pick(served, pick(index < fields.total, 0x00, 0x81), 0x80)
 }
 
-// 24 in Run: the ending of an install.
+// 24 in Run: 00 with the target version ends with 0 (success), anything else with 5.
 pub fn install_ending(fields: Fields, result: u8, version: [u8; 16]) -> u8
     ensures { λ r. ⌜ r ≡ installEnding fields result version ⌝ }
 {

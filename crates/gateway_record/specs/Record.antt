@@ -58,7 +58,7 @@ totalOf length size = (length + (size - 1)) / size
 unfoldable pub lengthOk : (length size : ℕ) → Bool
 lengthOk length size = leb 1 length && leb length (totalMax * size)
 
--- the stretch of the package for an index
+-- the bytes of the package's stretch for an index; its place is in the promise of `fragment` (`Stretch`)
 unfoldable pub fragmentOf : List ℕ → (size index : ℕ) → List ℕ
 fragmentOf content size index = take size (drop (index * size) content)
 
@@ -81,7 +81,7 @@ inPhase phase g = record { phase = phase; ending = g .ending; fields = g .fields
 abbrev pub endedWith : ℕ → Gateway → Gateway
 endedWith number g = record { phase = ended; ending = number; fields = g .fields; length = g .length }
 
--- what a start is refused for, in order
+-- what a start is refused for, in order: 17, 18, 19
 abbrev pub startRefusal : (version : List ℕ) (size length : ℕ) → ℕ
 startRefusal version size length =
     refusal ((badVersionText, goodVersion version) ∷ (badSize, sizeOk size) ∷ (badPackage, lengthOk length size) ∷ [])
@@ -102,7 +102,7 @@ recordOk g =
     && (sizeOk (g .fields .size)
     && (lengthOk (g .length) (g .fields .size) && eqb (g .fields .total) (totalOf (g .length) (g .fields .size)))))
 
--- what a call is refused for before anything is done, in order, by the lengths of the package and of the reply buffer that are lent
+-- what a call is refused for before anything is done, in order: 15, 29, 14, by the lengths of the package and of the reply buffer that are lent
 abbrev pub callRefusal : Gateway → (content reply : ℕ) → ℕ
 callRefusal g content reply =
     refusal ((shortReply, leb gatewayRoom reply) ∷ (badRecord, recordOk g) ∷ (badMemory, eqb content (g .length)) ∷ [])

@@ -15,7 +15,7 @@ use basis::unless;
 ghost use mathlib.Core.Path.{_≡_};
 ghost use Rattle.gateway_record.specs.Record.{startRefusal, callRefusal};
 
-// A start.
+// A start: 17, 18, 19.
 pub fn starting(version: [u8; 16], size: u16, length: usize) -> u8
     ensures { λ r. ⌜ r ≡ startRefusal version size length ⌝ }
 {
@@ -29,8 +29,8 @@ pub fn starting(version: [u8; 16], size: u16, length: usize) -> u8
     )
 }
 
-// A message is given, or the next one asked for: by the lengths of the package and of the reply
-// buffer that are lent.
+// A message is given, or the next one asked for: 15, 29, 14 (the package's length is not the one at
+// the start), by the lengths of the package and of the reply buffer that are lent.
 pub fn calling(gateway: Gateway, content: usize, reply: usize) -> u8
     ensures { λ r. ⌜ r ≡ callRefusal gateway content reply ⌝ }
 {

@@ -1,6 +1,6 @@
 -- Held, of 01's "Runs of demand 3": the fragments that the device stored since map bytes were last zeroed, and the fields of the
 -- announcement that zeroed them, worked out along the device's calls. That it counts only where these leave the device in phase 1, 2 or
--- 3 is said where it is used. Assumes nothing.
+-- 3, and what its fragments are, is said by `HeldIsPackage` in `Demand3`, a premise. Assumes nothing.
 use Prim.Native.Nat.{ℕ}
 use mathlib.Core.Bool.{Bool, _&&_, not}
 use mathlib.Core.List.{List, [], _∷_}
