@@ -25,20 +25,17 @@ use Rattle.hosted.specs.Hosts.{deviceHostDoes, gatewayHostDoes}
 use Rattle.hosted.specs.Witnesses.{HostedWitnesses}
 
 pub hosted-witnesses : HostedWitnesses
-unfolding pick refusal oneOf part same over patched doubled entryOf step register checkOf zeroed messageCheck sizeOk totalOk isWord printable front
-    allZero goodVersion startHolds versionByteHolds codeHolds checkHolds lengthHolds recognition deviceRow fragmentOk
-    deviceFields gatewayRow installCode gatewayFields sealed frame bytesOf readOf writeOf said marked mark cleared
-    missingFrom lowestMissing device-record.holding device-record.conditionOk device-record.newOf device-record.downloadOk
-    device-record.recordOk device-record.mapBytes device-record.memoryOk device.begin device.store device.onQuery device.onAnnounce
-    device.onFragment device.onDownloadReply device.onExecute device.onResultReply device.handle device.receiveOf device.wanted
-    device.nextMessageOf device.installFinishedOf device.announceResult device.sameFields device.resumes device.fragmentLength device.fragmentNumber
-    device.passes
-    device.completion device.executeResult gateway-record.totalOf gateway-record.lengthOk gateway-record.fragmentOf gateway-record.startOf
-    gateway-record.recordOk decisions.afterQuery decisions.serving decisions.fragmentResult decisions.installEnding gateway.fragmentReply
-    gateway.onQueryReply gateway.onAnnounceReply
-    gateway.onFragmentRequest gateway.onDownloadReport gateway.onExecuteReply gateway.onResultReport gateway.handle gateway.receiveOf
-    gateway.wanted gateway.nextMessageOf deviceDoes gatewayDoes heldBy heldNext heldAfter deviceNewOf deviceReceiveOf gatewayStartOf
-    gatewayReceiveOf textOf kept deviceBytes deviceAt gatewayBytes gatewayAt deviceHostDoes gatewayHostDoes
+unfolding pick refusal oneOf part same over patched doubled entryOf step register checkOf zeroed messageCheck sizeOk totalOk isWord printable front allZero
+    goodVersion startHolds versionByteHolds codeHolds checkHolds lengthHolds recognition deviceRow fragmentOk deviceFields gatewayRow installCode
+    gatewayFields sealed frame bytesOf readOf writeOf said marked mark cleared missingFrom lowestMissing device-record.holding device-record.conditionOk
+    device-record.newOf device-record.downloadOk device-record.recordOk device-record.mapBytes device-record.memoryOk device.begin device.store
+    device.onQuery device.onAnnounce device.onFragment device.onDownloadReply device.onExecute device.onResultReply device.handle device.receiveOf
+    device.wanted device.nextMessageOf device.installFinishedOf device.announceResult device.sameFields device.resumes device.fragmentLength
+    device.fragmentNumber device.passes device.completion device.executeResult gateway-record.totalOf gateway-record.lengthOk gateway-record.fragmentOf
+    gateway-record.startOf gateway-record.recordOk decisions.afterQuery decisions.serving decisions.fragmentResult decisions.installEnding
+    gateway.fragmentReply gateway.onQueryReply gateway.onAnnounceReply gateway.onFragmentRequest gateway.onDownloadReport gateway.onExecuteReply
+    gateway.onResultReport gateway.handle gateway.receiveOf gateway.wanted gateway.nextMessageOf deviceDoes gatewayDoes heldBy heldNext heldAfter
+    deviceNewOf deviceReceiveOf gatewayStartOf gatewayReceiveOf textOf kept deviceBytes deviceAt gatewayBytes gatewayAt deviceHostDoes gatewayHostDoes
 hosted-witnesses =
     record {
       clean = record {
