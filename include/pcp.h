@@ -67,7 +67,8 @@
    bytes; two-byte fields are sent high byte first:
 
        0  FF FE      start
-       2  01         protocol version
+       2  01         protocol version, in the lower four bits; the upper four
+                     are reserved: any are taken, 0 is sent
        3  code       13 to 18 hex (19 to 24)
        4  check      two bytes
        6  length     two bytes, the number of data bytes
@@ -537,7 +538,7 @@ enum {
     PCP_OTHER_PROTOCOL = 2,       /* it is upgraded by another protocol */
     PCP_BAD_START = 3,            /* bytes 0 and 1 are not FF FE: other traffic
                                      of this port */
-    PCP_BAD_VERSION = 4,          /* byte 2 is not 01 */
+    PCP_BAD_VERSION = 4,          /* the lower four bits of byte 2 are not 1 */
     PCP_BAD_CODE = 5,             /* byte 3 is not one of 19 to 24 */
     PCP_BAD_CHECK = 6,            /* the check field is not the message's check,
                                      or there are only 4 to 7 bytes: damaged; if

@@ -12,6 +12,8 @@ pub const RESULT: u8 = 24;
 
 const START: [u8; 2] = [0xFF, 0xFE];
 const PROTOCOL_VERSION: u8 = 0x01;
+/// The bits of the version byte that count; the others are reserved.
+const VERSION_BITS: u8 = 0x0F;
 const HEADER: usize = 8;
 
 pub const LEAST_SIZE: u16 = 32;
@@ -111,7 +113,8 @@ fn recognise(facts: Facts, message: &[u8]) -> Result<(), u8> {
     require(facts.supported, number::UNSUPPORTED)?;
     require(facts.pcp, number::OTHER_PROTOCOL)?;
     require(message.starts_with(&START), number::BAD_START)?;
-    require(message.get(2) == Some(&PROTOCOL_VERSION), number::BAD_PROTOCOL_VERSION)?;
+    let version = message.get(2).map(|byte| byte & VERSION_BITS);
+    require(version == Some(PROTOCOL_VERSION), number::BAD_PROTOCOL_VERSION)?;
     require(matches!(message.get(3), Some(QUERY..=RESULT)), number::BAD_CODE)?;
     let holds = message.len() >= HEADER && word_at(message, 4) == message_check(message);
     require(holds, number::BAD_CHECK)?;

@@ -25,7 +25,8 @@
 //!
 //! The gateway begins 19, 20 and 23, the device 21, 22 and 24; the other end's message of the same code is the reply. A
 //! message is `FF FE 01`, its code, a check of two bytes, the length of its data in two bytes, and the data. Fields of
-//! two bytes have the high byte first. The first byte of most data is a result, `00` for yes.
+//! two bytes have the high byte first. The upper four bits of the third byte are reserved: any are taken, 0 is sent.
+//! The first byte of most data is a result, `00` for yes.
 //!
 //! # What a host must do
 //!

@@ -74,7 +74,7 @@ static unsigned word(const uint8_t *at)
     return at[0] * 256u + at[1];
 }
 
-/* 01, "Recognising a message". */
+/* 01, "Recognising a message", with 02's 2026-01. */
 static unsigned own_recognise(unsigned supported, unsigned pcp,
                               const uint8_t *bytes, size_t length)
 {
@@ -84,7 +84,7 @@ static unsigned own_recognise(unsigned supported, unsigned pcp,
         return 2;
     if (length < 2 || word(bytes) != 0xFFFE)
         return 3;
-    if (length < 3 || bytes[2] != 1)
+    if (length < 3 || bytes[2] % 16 != 1)
         return 4;
     if (length < 4 || bytes[3] < 19 || bytes[3] > 24)
         return 5;
@@ -368,23 +368,45 @@ static void try_messages_of_code(uint8_t code)
     }
 }
 
-/* Every value of each of the first four bytes, with a right check. */
+/* Every value of each of the first four bytes, with a right check. Of byte 2 the
+   lower four bits alone count. */
 static void try_header_bytes(void)
 {
     static const struct {
-        int lowest, highest, number;
-    } rule[] = {{0xFF, 0xFF, 3}, {0xFE, 0xFE, 3}, {1, 1, 4}, {19, 24, 5}};
+        int mask, lowest, highest, number;
+    } rule[] = {{0xFF, 0xFF, 0xFF, 3},
+                {0xFF, 0xFE, 0xFE, 3},
+                {0x0F, 1, 1, 4},
+                {0xFF, 19, 24, 5}};
 
     for (size_t at = 0; at < 4; at++) {
         size_t length = make(20, 22);
 
         for (int value = 0; value < 256; value++) {
-            int good = rule[at].lowest <= value && value <= rule[at].highest;
+            int bits = value & rule[at].mask;
+            int good = rule[at].lowest <= bits && bits <= rule[at].highest;
 
             message[at] = (uint8_t)value;
             seal(length);
             compare(length, good ? 0 : rule[at].number);
         }
+    }
+}
+
+/* Every version byte in a message whose check, or whose code and check, are
+   wrong: where the byte is bad, it is told first. */
+static void try_version_bytes(void)
+{
+    for (int value = 0; value < 256; value++) {
+        int good = value % 16 == 1;
+        size_t length = make(20, 22);
+
+        message[2] = (uint8_t)value;
+        seal(length);
+        message[5] ^= 1;
+        compare(length, good ? 6 : 4);
+        message[3] = 25;
+        compare(length, good ? 5 : 4);
     }
 }
 
@@ -588,7 +610,8 @@ typedef struct {
 
 /* How often the random calls met a case that the test is about. */
 static struct {
-    unsigned long stored, short_last, changed, unchanged, refused, phases[7];
+    unsigned long stored, short_last, reserved, changed, unchanged, refused,
+        phases[7];
 } met;
 
 static void set_word(size_t at, unsigned value)
@@ -645,6 +668,8 @@ static size_t make_to_device(const device *d)
         message[8] = below(4) == 0 ? 0x80 : 0x00;
     } else
         length = make_fragment(d);
+    if (below(4) == 0)
+        message[2] |= (uint8_t)(16 * below(16)); /* reserved bits */
     seal(length);
     if (below(20) == 0)
         message[below((uint32_t)length)] ^= (uint8_t)(1 + below(255));
@@ -682,6 +707,7 @@ static void note_met(pcp_answer answer, const device *d)
     met.stored += answer.image_length > 0;
     met.short_last += answer.image_length > 0 &&
                       answer.image_length < pcp_device_size(d->record);
+    met.reserved += answer.number == PCP_HANDLED && message[2] != 1;
     met.changed += answer.changed;
     met.unchanged += answer.number == PCP_HANDLED && !answer.changed;
     met.refused += answer.number != PCP_HANDLED;
@@ -733,6 +759,7 @@ static void try_answers(void)
     }
     expect_met("fragments stored", met.stored);
     expect_met("short last fragments", met.short_last);
+    expect_met("reserved bits handled", met.reserved);
     expect_met("changes", met.changed);
     expect_met("handled without a change", met.unchanged);
     expect_met("refusals", met.refused);
@@ -786,6 +813,7 @@ int main(void)
     for (uint8_t code = 19; code <= 24; code++)
         try_messages_of_code(code);
     try_header_bytes();
+    try_version_bytes();
     try_short_with_right_check();
     try_facts();
     try_random();

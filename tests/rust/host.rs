@@ -6,7 +6,7 @@ use pcp::raw as library;
 use std::fmt::UpperHex;
 use std::process::ExitCode;
 
-/// 01, "The message and its check" and "Recognising a message".
+/// 01, "The message and its check" and "Recognising a message", with 02's 2026-01.
 struct Model {
     table: [u16; 256],
 }
@@ -43,7 +43,7 @@ impl Model {
             &|| supported != 0,
             &|| pcp != 0,
             &|| message.starts_with(&[0xFF, 0xFE]),
-            &|| message.get(2) == Some(&1),
+            &|| message.get(2).map(|byte| byte % 16) == Some(1),
             &|| matches!(message.get(3), Some(19..=24)),
             &check_fits,
             &|| word(6).map(|data| data + 8) == Some(message.len()),
@@ -182,6 +182,24 @@ impl Run {
         }
     }
 
+    /// Every version byte, in a message and before further faults: the lower four bits must be 1, the others may be any.
+    fn all_version_bytes(&mut self) {
+        for code in 19..=24 {
+            let mut message = self.model.message(code, &[0x5A; 20]);
+            for version in 0..=255 {
+                let [whole, bad_check, bad_code] = if version % 16 == 1 { [0, 6, 5] } else { [4; 3] };
+                message[2] = version;
+                self.model.seal(&mut message);
+                self.must(1, 1, &message, whole);
+                message[5] ^= 1;
+                self.must(1, 1, &message, bad_check);
+                message[3] = 25;
+                self.must(1, 1, &message, bad_code);
+                message[3] = code;
+            }
+        }
+    }
+
     /// Every set of the seven faults: the first in 01's order gives the number.
     fn all_faults(&mut self) {
         for set in 0..1 << 7 {
@@ -192,11 +210,12 @@ impl Run {
                 let mut message = self.model.message(code, &data);
                 let which = self.random.below(2); // of the two bytes of a field
                 let wrong = self.random.not_zero();
+                message[2] ^= self.random.byte() & 0xF0; // reserved bits are no fault
                 if has(3) {
                     message[which] ^= wrong;
                 }
                 if has(4) {
-                    message[2] ^= wrong;
+                    message[2] ^= 1 + wrong % 15;
                 }
                 if has(5) {
                     message[3] = 25u8.wrapping_add(wrong % 250); // 25 to 255, 0 to 18
@@ -296,6 +315,7 @@ fn main() -> ExitCode {
     let mut run = Run { model: Model::new(), random: Random(1), compared: 0, different: 0 };
     run.printed();
     run.all_short();
+    run.all_version_bytes();
     run.all_faults();
     run.cut_short();
     run.damaged();

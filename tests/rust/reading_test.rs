@@ -18,6 +18,7 @@ use std::process;
 use support::captures::{self, all_toward_device, SAMPLE_SEED};
 use support::messages::{
     announce, any_announce, download_result, execute, fragment, no_fragment, query, upgrade_result,
+    with_reserved_bits,
 };
 use support::random::Random;
 use support::{bytes, version};
@@ -73,19 +74,26 @@ fn published_to_gateway() -> Vec<(String, ToGateway)> {
     ]
 }
 
-/// Each published message is recognised, read as its fields, and written back byte for byte.
+/// Each published message is recognised, read as its fields, and written back byte for byte; with reserved bits it is
+/// read as the same, and written as it was published.
 fn published_messages(tally: &mut Tally) {
     for (text, message) in published_to_device() {
         let wire = bytes(&text);
         tally.same(&text, ToDevice::read(BOTH_FACTS, &wire), Ok(message));
         tally.same(&text, message.write(GATEWAY_ROOM), Ok(wire.clone()));
         tally.same(&text, message.write(GATEWAY_ROOM - 1), Err(15));
+        for bits in 1..16 {
+            tally.same(&text, ToDevice::read(BOTH_FACTS, &with_reserved_bits(&wire, bits)), Ok(message));
+        }
     }
     for (text, message) in published_to_gateway() {
         let wire = bytes(&text);
         tally.same(&text, ToGateway::read(BOTH_FACTS, &wire), Ok(message));
         tally.same(&text, message.write(DEVICE_ROOM), Ok(wire.clone()));
         tally.same(&text, message.write(DEVICE_ROOM - 1), Err(15));
+        for bits in 1..16 {
+            tally.same(&text, ToGateway::read(BOTH_FACTS, &with_reserved_bits(&wire, bits)), Ok(message));
+        }
     }
 }
 
@@ -123,7 +131,15 @@ fn recognition(tally: &mut Tally) {
         (yes, "FFFF0000", 3),
         (yes, "FFFE", 4),
         (yes, "FFFE02134C9A0000", 4),
-        (yes, "FFFE1113", 4),
+        // Only the lower four bits of the version byte count.
+        (yes, "FFFE0013", 4),
+        (yes, "FFFE1013F9340000", 4),
+        (yes, "FFFEF212", 4),
+        (yes, "FFFE1112", 5),
+        (yes, "FFFEF1134C9A0000", 6),
+        (yes, "FFFE1113CB1F0000", 0),
+        (yes, "FFFE8113243C0000", 0),
+        (yes, "FFFEF113BD920000", 0),
         (yes, "FFFE01", 5),
         (yes, "FFFE01124C9A0000", 5),
         (yes, "FFFE0119", 5),

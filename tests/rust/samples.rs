@@ -8,11 +8,12 @@ use std::path::Path;
 use std::{env, fs, io, process};
 use support::captures::{self, SAMPLE_SEED};
 
-fn samples() -> [(&'static str, Vec<u8>); 5] {
+fn samples() -> [(&'static str, Vec<u8>); 6] {
     [
         ("four-records", captures::four_records()),
         ("full-download", captures::full_download(SAMPLE_SEED)),
         ("recut", captures::recut(SAMPLE_SEED)),
+        ("reserved-bits", captures::reserved_bits()),
         ("damaged", captures::damaged()),
         ("cut", captures::cut()),
     ]

@@ -14,8 +14,8 @@ use Rattle.basis.specs.Bytes.{Bytes, wordAt, wordBytes, part}
 use Rattle.basis.proofs.Choosing.{and-left, and-right, passed}
 use Rattle.basis.proofs.Lists.{part-within}
 use Rattle.checksum.specs.Check.{checkOf, zeroed, messageCheck}
-use Rattle.message.specs.Recognition.{startHolds, versionByteHolds, codeHolds, checkHolds, lengthHolds, recognition}
-use Rattle.codec.specs.Codec.{sealed, frame}
+use Rattle.message.specs.Recognition.{protocolVersion, startHolds, versionByteHolds, reservedBits, codeHolds, checkHolds, lengthHolds, recognition}
+use Rattle.codec.specs.Codec.{sealed, frame, rewritten}
 
 -- ---- the check field
 
@@ -39,7 +39,7 @@ check-sealed m = check-any-field m _ _
 pub record Recognised (m : List ℕ) : Type 0 where
   pub first : getD m 0 0 ≡ 0xFF
   pub second : getD m 1 0 ≡ 0xFE
-  pub version : getD m 2 0 ≡ 0x01
+  pub version : getD m 2 0 % 16 ≡ protocolVersion
   pub low : 19 ≤ getD m 3 0
   pub high : getD m 3 0 ≤ 24
   pub whole : 8 ≤ length m
@@ -52,7 +52,7 @@ recognised-0 m r =
     rw (
       eq-eqb (getD m 0 0) 0xFF (r .first),
       eq-eqb (getD m 1 0) 0xFE (r .second),
-      eq-eqb (getD m 2 0) 0x01 (r .version),
+      eq-eqb (getD m 2 0 % 16) protocolVersion (r .version),
       le-leb 19 (getD m 3 0) (r .low),
       le-leb (getD m 3 0) 24 (r .high),
       le-leb 8 (length m) (r .whole),
@@ -87,51 +87,84 @@ recognised supported pcp m e =
 
 -- ---- a frame
 
-pub frame-code : (code : ℕ) (d : List ℕ) → getD (frame code d) 3 0 ≡ code
-unfolding frame sealed
-frame-code code d = refl
-
-pub frame-data : (code : ℕ) (d : List ℕ) → drop 8 (frame code d) ≡ d
-unfolding frame sealed
-frame-data code d = refl
-
 pub length-frame : (code : ℕ) (d : List ℕ) → length (frame code d) ≡ 8 + length d
 unfolding frame sealed
 length-frame code d = omega arith
 
-pub frame-check : (code : ℕ) (d : List ℕ) → wordAt (frame code d) 4 ≡ messageCheck (frame code d)
-unfolding frame sealed
-frame-check code d =
-    let m : List ℕ = 0xFF ∷ 0xFE ∷ 0x01 ∷ code ∷ 0 ∷ 0 ∷ (wordBytes (length d) ++ d) in
+-- a frame with any version byte, and the check made for it
+pub framed : (version code : ℕ) → List ℕ → List ℕ
+framed version code d = sealed (0xFF ∷ 0xFE ∷ version ∷ code ∷ 0 ∷ 0 ∷ (wordBytes (length d) ++ d))
+
+pub framed-frame : (code : ℕ) (d : List ℕ) → framed protocolVersion code d ≡ frame code d
+unfolding frame framed
+framed-frame code d = refl
+
+pub framed-set : (version code : ℕ) (d : List ℕ) → framed version code d ≡ sealed (set (frame code d) 2 version)
+unfolding frame framed sealed messageCheck zeroed
+framed-set version code d = refl
+
+pub framed-code : (version code : ℕ) (d : List ℕ) → getD (framed version code d) 3 0 ≡ code
+unfolding framed sealed
+framed-code version code d = refl
+
+pub framed-data : (version code : ℕ) (d : List ℕ) → drop 8 (framed version code d) ≡ d
+unfolding framed sealed
+framed-data version code d = refl
+
+framed-check : (version code : ℕ) (d : List ℕ) → wordAt (framed version code d) 4 ≡ messageCheck (framed version code d)
+unfolding framed sealed
+framed-check version code d =
+    let m : List ℕ = 0xFF ∷ 0xFE ∷ version ∷ code ∷ 0 ∷ 0 ∷ (wordBytes (length d) ++ d) in
     div-add-mod' (messageCheck m) 256 ∙ sym (check-sealed m)
 
-pub frame-recognised : (code : ℕ) (d : List ℕ) → 19 ≤ code → code ≤ 24 → recognition true true (frame code d) ≡ 0
-unfolding frame sealed
-frame-recognised code d low high =
-    recognised-0 (frame code d)
-    record { first = refl; second = refl; version = refl; low = low; high = high; whole = omega arith; check = frame-check code d; size = omega arith }
+pub framed-recognised : (version code : ℕ) (d : List ℕ) → version % 16 ≡ protocolVersion → 19 ≤ code → code ≤ 24
+    → recognition true true (framed version code d) ≡ 0
+unfolding framed sealed
+framed-recognised version code d v low high =
+    recognised-0 (framed version code d)
+    record {
+      first = refl;
+      second = refl;
+      version = v;
+      low = low;
+      high = high;
+      whole = omega arith;
+      check = framed-check version code d;
+      size = omega arith;
+    }
 
--- ---- what is recognised is a frame
+-- ---- what is recognised is a frame, but for the reserved bits
 
-resealed : (m : List ℕ) → Bytes m → wordAt m 4 ≡ messageCheck m → sealed (zeroed m) ≡ m
-unfolding sealed zeroed Bytes
-resealed m bytes e =
-    let c : messageCheck (set (set m 4 0) 5 0) ≡ wordAt m 4 = check-any-field m 0 0 ∙ sym e in
+sealed-zeroed : (m : List ℕ) → sealed (zeroed m) ≡ sealed m
+unfolding sealed zeroed
+sealed-zeroed m = rw (check-any-field m 0 0) (set-field m 0 0 _ _)
+
+-- a message that has its check is sealed as itself
+sealed-same : (m : List ℕ) → Bytes m → wordAt m 4 ≡ messageCheck m → sealed m ≡ m
+unfolding sealed Bytes
+sealed-same m bytes e =
     let high : wordAt m 4 / 256 ≡ getD m 4 0 = omega (arith, bytes 5) in
     let low : wordAt m 4 % 256 ≡ getD m 5 0 = omega (arith, bytes 5) in
-    rw (c, high, low, set-field m 0 0 (getD m 4 0) (getD m 5 0), set-getD m 4 0, set-getD m 5 0)
+    rw (← e, high, low, set-getD m 4 0, set-getD m 5 0)
 
--- the message with its check field as 0000 is what a frame seals
+-- the message with the version byte 01 and its check field as 0000 is what a frame seals
 bare : (m : List ℕ) → Bytes m → Recognised m
-    → (0xFF ∷ 0xFE ∷ 0x01 ∷ getD m 3 0 ∷ 0 ∷ 0 ∷ (wordBytes (length (drop 8 m)) ++ drop 8 m)) ≡ zeroed m
+    → (0xFF ∷ 0xFE ∷ protocolVersion ∷ getD m 3 0 ∷ 0 ∷ 0 ∷ (wordBytes (length (drop 8 m)) ++ drop 8 m)) ≡ zeroed (set m 2 protocolVersion)
 unfolding Bytes part zeroed
 bare m bytes r =
     let parts : part m 0 8 ++ drop 8 m ≡ m = ap (λ (l : List ℕ). l ++ drop 8 m) (part-within m 0 8 (r .whole)) ∙ take-append-drop 8 m in
     let size : length (drop 8 m) ≡ wordAt m 6 = length-drop 8 m ∙ sym (r .size) in
     let high : length (drop 8 m) / 256 ≡ getD m 6 0 = omega (arith, bytes 7) in
     let low : length (drop 8 m) % 256 ≡ getD m 7 0 = omega (arith, bytes 7) in
-    rw (high, low) (sym (ap zeroed (sym parts) ∙ rw (r .first, r .second, r .version)))
+    rw (high, low) (sym (ap (λ (l : List ℕ). zeroed (set l 2 protocolVersion)) (sym parts) ∙ rw (r .first, r .second)))
 
-pub recognised-frame : (m : List ℕ) → Bytes m → Recognised m → frame (getD m 3 0) (drop 8 m) ≡ m
-unfolding frame
-recognised-frame m bytes r = ap sealed (bare m bytes r) ∙ resealed m bytes (r .check)
+pub recognised-frame : (m : List ℕ) → Bytes m → Recognised m → frame (getD m 3 0) (drop 8 m) ≡ rewritten m
+unfolding frame rewritten
+recognised-frame m bytes r = ap sealed (bare m bytes r) ∙ sealed-zeroed (set m 2 protocolVersion)
+
+-- without reserved bits the version byte is 01 already
+pub rewritten-same : (m : List ℕ) → Bytes m → Recognised m → reservedBits m ≡ 0 → rewritten m ≡ m
+unfolding rewritten reservedBits
+rewritten-same m bytes r z =
+    let version : getD m 2 0 ≡ protocolVersion = omega (arith, r .version, z) in
+    rw (← version, set-getD m 2 0) (sealed-same m bytes (r .check))

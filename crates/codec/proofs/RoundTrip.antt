@@ -1,20 +1,21 @@
 -- Messages written and read: each undoes the other, for any lawful column of 01's table and so for all twelve messages. Assumes nothing.
-use Prim.Native.Nat.{ℕ, _≤_}
+use Prim.Native.Nat.{ℕ, _+_, _*_, _%_, _≤_}
 use native.Mathlib.Omega.{arith}
 use mathlib.Core.Path.{_≡_, refl, sym, _∙_, ap, ap₂, subst}
 use mathlib.Core.Bool.{Bool, true}
 use mathlib.Core.List.{List}
-use lib.ListN.{length, take, drop, getD}
+use lib.ListN.{length, take, drop, getD, set}
 use borrow.Author.Tests.{eqb-true, eqb-false, le-ltb}
 use Rattle.basis.specs.Choice.{pick}
 use Rattle.basis.specs.Bytes.{Bytes, over}
 use Rattle.basis.proofs.Choosing.{pick-yes, pick-no, by-cases, and-left, and-right, refusal-among}
 use Rattle.basis.proofs.Lists.{same-true, same-refl, take-over}
-use Rattle.message.specs.Recognition.{recognition}
+use Rattle.message.specs.Recognition.{protocolVersion, reservedBits, recognition}
 use Rattle.message.specs.Messages.{Table, toDevice, toGateway, Reading, found, refused}
-use Rattle.codec.specs.Codec.{frame, Sent, bytesOf, readOf, writeOf, said}
+use Rattle.codec.specs.Codec.{sealed, frame, rewritten, Sent, bytesOf, readOf, writeOf, said}
 use Rattle.codec.specs.Demand2.{RoundTrips}
-use Rattle.codec.proofs.Frames.{frame-code, frame-data, frame-recognised, length-frame, Recognised, recognised, recognised-facts, recognised-frame}
+use Rattle.codec.proofs.Frames.{length-frame, framed, framed-frame, framed-set, framed-code, framed-data, framed-recognised}
+use Rattle.codec.proofs.Frames.{Recognised, recognised, recognised-facts, recognised-frame, rewritten-same}
 use Rattle.message.proofs.Tables.{Lawful, device-lawful, gateway-lawful}
 
 -- ---- reading
@@ -50,25 +51,40 @@ module _ (t : Table) (supported pcp : Bool) (bytes : List ℕ) where
 
 module _ (t : Table) (lawful : Lawful t) where
   module _ (m : t .Message) (v : t .valid m ≡ true) where
+    -- whatever the version byte's reserved bits
+    module _ (version : ℕ) (h : version % 16 ≡ protocolVersion) where
+      framed-again : recognition true true (framed version (t .code m) (t .content m)) ≡ 0
+      framed-again = let (low, high, _) = lawful .bounds m v in framed-recognised version (t .code m) (t .content m) h low high
+
+      read-framed : readOf t true true (framed version (t .code m) (t .content m)) ≡ found m
+      unfolding readOf pick
+      read-framed =
+          rw (
+            framed-again,
+            framed-code version (t .code m) (t .content m),
+            framed-data version (t .code m) (t .content m),
+            lawful .restored m v,
+            v,
+            same-refl (t .content m),
+          )
+
     recognised-again : recognition true true (bytesOf t m) ≡ 0
     unfolding bytesOf
-    recognised-again = let (low, high, _) = lawful .bounds m v in frame-recognised (t .code m) (t .content m) low high
+    recognised-again = rw (← framed-frame (t .code m) (t .content m)) (framed-again protocolVersion refl)
 
     fits : length (bytesOf t m) ≤ t .room
     unfolding bytesOf
     fits = rw (length-frame (t .code m) (t .content m)) (lawful .bounds m v .2)
 
     read-again : readOf t true true (bytesOf t m) ≡ found m
-    unfolding readOf bytesOf pick
-    read-again =
-        rw (
-          recognised-again,
-          frame-code (t .code m) (t .content m),
-          frame-data (t .code m) (t .content m),
-          lawful .restored m v,
-          v,
-          same-refl (t .content m),
-        )
+    unfolding bytesOf
+    read-again = rw (← framed-frame (t .code m) (t .content m)) (read-framed protocolVersion refl)
+
+    read-reserved : (bits : ℕ) → readOf t true true (sealed (set (bytesOf t m) 2 (bits * 16 + protocolVersion))) ≡ found m
+    unfolding bytesOf
+    read-reserved bits =
+        let version : ℕ = bits * 16 + protocolVersion in
+        rw (← framed-set version (t .code m) (t .content m)) (read-framed version (omega arith))
 
     sent : (buffer : List ℕ) → t .room ≤ length buffer
         → writeOf t (found m) buffer ≡ record { number = 0; length = length (bytesOf t m); buffer = over (bytesOf t m) buffer }
@@ -99,9 +115,16 @@ module _ (t : Table) (lawful : Lawful t) where
     code-in : t .code m ≡ getD bytes 3 0
     code-in = ap (t .code) (sym (told .fields)) ∙ lawful .code-kept (getD bytes 3 0) (drop 8 bytes) (header .low) (header .high)
 
-    written-again : Bytes bytes → bytesOf t m ≡ bytes
+    written-again : Bytes bytes → bytesOf t m ≡ rewritten bytes
     unfolding bytesOf
     written-again b = ap₂ frame code-in (told .content) ∙ recognised-frame bytes b header
+
+    written-same : Bytes bytes → reservedBits bytes ≡ 0 → bytesOf t m ≡ bytes
+    written-same b z = written-again b ∙ rewritten-same bytes b header z
+
+    same-written : bytesOf t m ≡ bytes → reservedBits bytes ≡ 0
+    unfolding bytesOf frame sealed reservedBits
+    same-written e = rw (← e)
 
     -- the facts do not matter once a message is found
     read-so : readOf t true true bytes ≡ found m
@@ -114,7 +137,10 @@ module _ (t : Table) (lawful : Lawful t) where
         written-only = λ m n v s p e. let f = read-so s p (bytesOf t m) n e in let g = read-again m v in cc;
         written-recognised = recognised-again;
         written-fits = fits;
-        read-written = written-again;
+        reserved-read = read-reserved;
+        read-rewritten = written-again;
+        read-written = written-same;
+        read-written-only = same-written;
         read-valid = λ s p bytes m e. told s p bytes m e .valid;
         read-code = code-in;
         refused-number = λ s p bytes n e. subst (Tells t s p bytes) e (read-tells t s p bytes);

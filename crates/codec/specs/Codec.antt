@@ -8,7 +8,7 @@ use Rattle.basis.specs.Choice.{pick}
 use Rattle.basis.specs.Numbers.{badData, shortReply}
 use Rattle.basis.specs.Bytes.{wordBytes, same, over}
 use Rattle.checksum.specs.Check.{messageCheck}
-use Rattle.message.specs.Recognition.{recognition}
+use Rattle.message.specs.Recognition.{protocolVersion, recognition}
 use Rattle.message.specs.Messages.{Table, Reading, found, refused}
 
 -- the message with its check put in: high byte first, as every WORD
@@ -17,7 +17,11 @@ sealed m = set (set m 4 (messageCheck m / 256)) 5 (messageCheck m % 256)
 
 -- FF FE, protocol version, message code, check (2), data length (2), data
 unfoldable pub frame : (code : ℕ) → List ℕ → List ℕ
-frame code d = sealed (0xFF ∷ 0xFE ∷ 0x01 ∷ code ∷ 0 ∷ 0 ∷ (wordBytes (length d) ++ d))
+frame code d = sealed (0xFF ∷ 0xFE ∷ protocolVersion ∷ code ∷ 0 ∷ 0 ∷ (wordBytes (length d) ++ d))
+
+-- the message as we would write it: its version byte without reserved bits, and its check made anew
+unfoldable pub rewritten : List ℕ → List ℕ
+rewritten m = sealed (set m 2 protocolVersion)
 
 -- what writing gives: the number, the length of what was written, and the buffer after it
 pub record Sent : Type 0 where

@@ -7,6 +7,7 @@ use crate::parts::gateway_parts;
 use basis::number::BAD_DATA;
 use basis::number::HANDLED;
 use basis::number::SHORT_REPLY;
+use message::PROTOCOL_VERSION;
 use message::ToDevice;
 use message::ToGateway;
 ghost use mathlib.Core.Path.{_≡_};
@@ -14,6 +15,7 @@ ghost use mathlib.Core.List.{[], _∷_, _++_};
 ghost use Prim.Native.Nat.{_+_, _≤_, _<_};
 ghost use lib.ListN.{length, take};
 ghost use Rattle.basis.specs.Bytes.{wordBytes, over, patched};
+ghost use Rattle.message.specs.Recognition.{protocolVersion};
 ghost use Rattle.message.specs.Messages.{toDevice, toGateway};
 ghost use Rattle.codec.specs.Codec.{sealed, frame, writeOf, spoken};
 ghost use Rattle.message.specs.Enums.{deviceMessage, gatewayMessage};
@@ -23,10 +25,19 @@ ghost use Rattle.codec.specs.Parts.{lengthOf, assembled, Within, Framed}
 // The 8 bytes before len bytes of data, with check 0000.
 fn put_header(out: &mut [u8], code: u8, len: usize)
     requires { ⌜ (8 ≤ length (now out)) × (len < 65536) ⌝ }
-    ensures { λ _. ⌜ now (out .exit) ≡ over (0xFF ∷ 0xFE ∷ 0x01 ∷ code ∷ 0 ∷ 0 ∷ wordBytes len) (now (out .entry)) ⌝ }
+    ensures { λ _. ⌜ now (out .exit) ≡ over (0xFF ∷ 0xFE ∷ protocolVersion ∷ code ∷ 0 ∷ 0 ∷ wordBytes len) (now (out .entry)) ⌝ }
 {
     let length = basis::word_bytes(len as u16);
-    let header = [0xFF, 0xFE, 0x01, code, 0, 0, length[0], length[1]];
+    let header = [
+        0xFF,
+        0xFE,
+        PROTOCOL_VERSION,
+        code,
+        0,
+        0,
+        length[0],
+        length[1],
+    ];
     basis::put(out, 0, &header);
 }
 

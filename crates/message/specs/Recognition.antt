@@ -1,6 +1,6 @@
 -- 01, "Recognising a message": the numbers 1 to 7 in their order. A byte that is not there reads as 0, which no field before the check
 -- allows, so a message too short to hold a field fails at that field. Assumes nothing.
-use Prim.Native.Nat.{ℕ, _-_}
+use Prim.Native.Nat.{ℕ, _-_, _/_, _%_}
 use mathlib.Core.Bool.{Bool, _&&_}
 use mathlib.Core.List.{List, [], _∷_}
 use lib.Dec.{eqb, leb}
@@ -14,9 +14,16 @@ use Rattle.checksum.specs.Check.{messageCheck}
 unfoldable pub startHolds : List ℕ → Bool
 startHolds m = eqb (getD m 0 0) 0xFF && eqb (getD m 1 0) 0xFE
 
--- 4: the version byte
+-- the protocol version: what is written as the version byte, and what its lower four bits must be
+abbrev pub protocolVersion : ℕ
+protocolVersion = 0x01
+
+-- 4: the version byte. Its upper four bits are reserved, and may be any (02, 2026-01)
 unfoldable pub versionByteHolds : List ℕ → Bool
-versionByteHolds m = eqb (getD m 2 0) 0x01
+versionByteHolds m = eqb (getD m 2 0 % 16) protocolVersion
+
+unfoldable pub reservedBits : List ℕ → ℕ
+reservedBits m = getD m 2 0 / 16
 
 -- 5: the code
 unfoldable pub codeHolds : List ℕ → Bool

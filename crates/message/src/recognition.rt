@@ -1,4 +1,5 @@
 // Recognition: the tests 1 to 7 in their order. The first that fails gives its number.
+use crate::PROTOCOL_VERSION;
 use basis::number::BAD_CHECK;
 use basis::number::BAD_CODE;
 use basis::number::BAD_LENGTH;
@@ -19,11 +20,11 @@ fn start_holds(message: &[u8]) -> bool
     (basis::byte_at(message, 0) == 0xFF) & (basis::byte_at(message, 1) == 0xFE)
 }
 
-// 4: the version byte.
+// 4: the version byte. Its lower four bits alone count: the upper ones are reserved.
 fn version_byte_holds(message: &[u8]) -> bool
     ensures { λ r. ⌜ r ≡ versionByteHolds (now (message .entry)) ⌝ }
 {
-    basis::byte_at(message, 2) == 0x01
+    basis::byte_at(message, 2) % 16 == PROTOCOL_VERSION
 }
 
 // 5: the code.

@@ -113,6 +113,32 @@ fn an_upgrade_succeeds() {
     assert_eq!(pair.image[PACKAGE.len()..], [ERASED; 14]);
 }
 
+/// The message as a sender that sets reserved bits of the version byte would send it.
+fn with_reserved_bits(message: &[u8], bits: u8) -> Vec<u8> {
+    let mut other = message.to_vec();
+    other[2] |= bits << 4;
+    let check = pcp::check_of_message(&other).to_be_bytes();
+    other[4..6].copy_from_slice(&check);
+    other
+}
+
+#[test]
+fn reserved_bits_change_nothing() {
+    for bits in 0..16 {
+        let (mut pair, mut plain) = (Pair::new(), Pair::new());
+        let query = plain.gateway_asks().unwrap();
+        let answer = plain.device_takes(&query);
+        assert_eq!(pair.device_takes(&with_reserved_bits(&query, bits)), answer);
+        let version = answer.0.unwrap();
+        let heard = plain.gateway_takes(&version);
+        assert_eq!(pair.gateway_takes(&with_reserved_bits(&version, bits)), heard);
+        let offer = plain.gateway_asks().unwrap();
+        let answer = plain.device_takes(&offer);
+        assert_eq!(pair.device_takes(&with_reserved_bits(&offer, bits)), answer);
+        assert_eq!((pair.device, pair.gateway), (plain.device, plain.gateway));
+    }
+}
+
 #[test]
 fn a_refusal_changes_nothing() {
     let mut pair = Pair::loaded();
@@ -120,7 +146,9 @@ fn a_refusal_changes_nothing() {
     let mut reply = [0x55; DEVICE_REPLY];
     let refusals = [
         (&b"no message"[..], DEVICE_REPLY, Refusal::BadStart),
+        (b"\xFF\xFE\x10\x13\xF9\x34\0\0", DEVICE_REPLY, Refusal::BadVersion),
         (b"\xFF\xFE\x01\x13\x4C\x9B\0\0", DEVICE_REPLY, Refusal::BadCheck),
+        (b"\xFF\xFE\xF1\x13\x4C\x9A\0\0", DEVICE_REPLY, Refusal::BadCheck),
         (b"\xFF\xFE\x01\x13\x4C\x9A\0\0", DEVICE_REPLY - 1, Refusal::ShortReply),
     ];
     for (message, room, refusal) in refusals {

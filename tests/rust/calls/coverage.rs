@@ -3,6 +3,7 @@
 use super::comparison::Made;
 use super::run::Ends;
 use super::Call;
+use crate::reading::check::message_check;
 use crate::reading::device::{Device, ACKED, FAILED, IDLE, INSTALLING, LOADED, LOADING, REPORTING};
 use crate::reading::gateway::{Gateway, ASK, ENDED, OFFER, RUN, SERVE};
 use crate::reading::layout::SHORT_RECORD;
@@ -37,6 +38,12 @@ const DEVICE_HANDLED: &str = "device handled";
 const DEVICE_NO_USE: &str = "device had no use";
 const GATEWAY_HANDLED: &str = "gateway handled";
 const GATEWAY_NO_USE: &str = "gateway had no use";
+/// Messages with reserved bits in a good version byte, by these bits and the number.
+const RESERVED_RECOGNISED: &str = "reserved bits recognised";
+const RESERVED_AT_DEVICE: &str = "reserved bits at the device";
+const RESERVED_AT_GATEWAY: &str = "reserved bits at the gateway";
+/// Version bytes refused with 4, by the byte and whether the check is right.
+const VERSION_REFUSED: &str = "version byte refused";
 /// Steps, by the phases before and after.
 const DEVICE_STEP: &str = "device step";
 const GATEWAY_STEP: &str = "gateway step";
@@ -71,11 +78,15 @@ impl Coverage {
         match made.call {
             Call::Check => self.count((CHECK, 0, 0)),
             Call::MessageCheck => self.count((MESSAGE_CHECK, 0, 0)),
-            Call::Recognise { .. } => self.count((RECOGNISE, number, 0)),
+            Call::Recognise { .. } => {
+                self.count((RECOGNISE, number, 0));
+                self.count_version_byte(RESERVED_RECOGNISED, number, &made.before.input);
+            }
             Call::DeviceNew => self.count((DEVICE_NEW, number, 0)),
             Call::GatewayStart { .. } => self.count((GATEWAY_START, number, 0)),
             Call::DeviceReceive { .. } => {
                 self.count((DEVICE_RECEIVE, number, 0));
+                self.count_version_byte(RESERVED_AT_DEVICE, number, &made.before.input);
                 self.count_message([DEVICE_HANDLED, DEVICE_NO_USE], number, &made, before.device.phase);
                 sent(DEVICE_REPLY).into_iter().for_each(|event| self.count(event));
                 if counts_steps {
@@ -98,6 +109,7 @@ impl Coverage {
             }
             Call::GatewayReceive { .. } => {
                 self.count((GATEWAY_RECEIVE, number, 0));
+                self.count_version_byte(RESERVED_AT_GATEWAY, number, &made.before.input);
                 self.count_message([GATEWAY_HANDLED, GATEWAY_NO_USE], number, &made, before.gateway.phase);
                 sent(GATEWAY_REPLY).into_iter().for_each(|event| self.count(event));
                 if counts_steps {
@@ -115,6 +127,16 @@ impl Coverage {
         match number {
             number::HANDLED => self.count((handled, made.before.input[3], phase)),
             number::NO_USE => self.count((no_use, made.before.input[3], phase)),
+            _ => {}
+        }
+    }
+
+    fn count_version_byte(&mut self, reserved: &'static str, number: u8, message: &[u8]) {
+        match (message.get(2), number) {
+            (Some(version), number::PROTOCOL_VERSION) => {
+                self.count((VERSION_REFUSED, *version, u8::from(has_right_check(message))));
+            }
+            (Some(version), _) if version % 16 == 1 => self.count((reserved, version / 16, number)),
             _ => {}
         }
     }
@@ -159,6 +181,10 @@ impl Coverage {
     }
 }
 
+fn has_right_check(message: &[u8]) -> bool {
+    message.get(4..6) == Some(&message_check(message).to_be_bytes()[..])
+}
+
 /// Whether 29 would not refuse the record; the installer's end tests that first.
 fn is_sound(device: &Device) -> bool {
     device.clone().install_finished(0x00) != number::RECORD
@@ -168,6 +194,7 @@ fn is_sound(device: &Device) -> bool {
 fn wanted() -> BTreeSet<Event> {
     let mut events = BTreeSet::from([(CHECK, 0, 0), (MESSAGE_CHECK, 0, 0), (FULL_MAP, 0, 0)]);
     events.extend(wanted_numbers());
+    events.extend(wanted_version_bytes());
     events.extend(wanted_messages());
     events.extend(wanted_steps());
     events.extend(wanted_sendings());
@@ -194,6 +221,20 @@ fn wanted_numbers() -> Vec<Event> {
         one_each(GATEWAY_NEXT, &[0, 9, 14, 15, 29, SHORT_RECORD]),
     ]
     .concat()
+}
+
+/// Every reserved bit pattern, taken and with a wrong check; and bad version bytes, with a right and a wrong check.
+fn wanted_version_bytes() -> Vec<Event> {
+    let mut events = Vec::new();
+    for kind in [RESERVED_RECOGNISED, RESERVED_AT_DEVICE, RESERVED_AT_GATEWAY] {
+        for bits in 1..16 {
+            events.extend(with_each(kind, bits, &[number::HANDLED, number::CHECK]));
+        }
+    }
+    for version in [0x00, 0x02, 0x10, 0xF2] {
+        events.extend(with_each(VERSION_REFUSED, version, &[0, 1]));
+    }
+    events
 }
 
 /// Each message in each phase: handled, or without use.

@@ -11,7 +11,7 @@ use crate::reading::layout::{
     read_device, read_gateway, write_device, DEVICE_FIELDS, DEVICE_RECORD, GATEWAY_FIELDS, GATEWAY_RECORD,
 };
 use crate::reading::message::{rounded_up, DEVICE_ROOM, GATEWAY_ROOM, SIZES, UPGRADE_RESULTS};
-use crate::support::messages::damaged;
+use crate::support::messages::{damaged, other_version_byte};
 use crate::support::random::Random;
 use std::array;
 
@@ -281,7 +281,7 @@ impl Run {
         self.message(true, next_to_gateway, any_to_gateway)
     }
 
-    /// One from the air, one that brings the end on, or any; then perhaps damaged.
+    /// One from the air, one that brings the end on, or any; then perhaps damaged, or with another version byte.
     fn message(
         &mut self,
         to_gateway: bool,
@@ -293,10 +293,11 @@ impl Run {
             4 | 5 => self.from_air(to_gateway).unwrap_or_default(),
             _ => any(&mut self.random, &Ends::of(&self.memory)),
         };
-        if message.is_empty() || self.random.below(8) < 7 {
-            message
-        } else {
-            damaged(&mut self.random, &message)
+        match self.random.below(8) {
+            _ if message.is_empty() => message,
+            0 => damaged(&mut self.random, &message),
+            1 => other_version_byte(&mut self.random, &message),
+            _ => message,
         }
     }
 

@@ -45,12 +45,13 @@ pub struct Facts {
 
 pub const BOTH_FACTS: Facts = Facts { supported: true, is_pcp: true };
 
-/// Source 000's tests in their order. A field that is not all there counts as wrong.
+/// Source 000's tests in their order. A field that is not all there counts as wrong. Of the version byte only the lower
+/// four bits count (02, 2026-01).
 pub fn recognise(facts: Facts, message: &[u8]) -> Result<(), u8> {
     require(facts.supported, number::UNSUPPORTED)?;
     require(facts.is_pcp, number::NOT_PCP)?;
     require(message.starts_with(&[0xFF, 0xFE]), number::START)?;
-    require(message.get(2) == Some(&0x01), number::PROTOCOL_VERSION)?;
+    require(message.get(2).map(|byte| byte & 0x0F) == Some(0x01), number::PROTOCOL_VERSION)?;
     require(matches!(message.get(3), Some(QUERY..=UPGRADE_RESULT)), number::MESSAGE_CODE)?;
     require(message.len() >= HEADER && word(message, 4) == message_check(message), number::CHECK)?;
     require(usize::from(word(message, 6)) == message.len() - HEADER, number::DATA_LENGTH)

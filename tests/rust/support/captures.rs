@@ -1,12 +1,12 @@
 //! Captures for the samples and for the checks of the replay program.
 
-use super::messages::{announce, execute, fragment, query};
+use super::messages::{announce, execute, fragment, query, with_reserved_bits, with_version_byte};
 use super::random::Random;
 use super::version;
 use crate::reading::capture::{FROM_DEVICE, TOWARD_DEVICE};
 use crate::reading::device::{is_stored, Device, READY};
 use crate::reading::gateway::Gateway;
-use crate::reading::message::{ToGateway, BOTH_FACTS, DEVICE_ROOM, GATEWAY_ROOM};
+use crate::reading::message::{encode, ToGateway, BOTH_FACTS, DEVICE_ROOM, GATEWAY_ROOM};
 use crate::reading::replay::{IMAGE_LENGTH, MAP_LENGTH, RUNNING};
 
 /// Fixes what gets lost, repeated and reordered in the samples.
@@ -204,6 +204,30 @@ pub fn recut(seed: u64) -> Vec<u8> {
     assert_eq!(session.device.phase, 2, "the recut is loaded");
     assert_eq!(session.image[..second.len()], second);
     session.capture.bytes
+}
+
+/// The four messages from a gateway that sets reserved bits, and before the announcement what is refused: bad version
+/// bytes (alone, with a bad code, a bad check, both), then the check of 01 beside F1.
+pub fn reserved_bits() -> Vec<u8> {
+    let messages = four_messages();
+    let query = &messages[0];
+    let other_code = encode(18, &[]);
+    let with_check_of_01 = |message: &[u8], version| {
+        let mut other = message.to_vec();
+        other[2] = version;
+        other
+    };
+    all_toward_device(&[
+        with_reserved_bits(query, 0xF),
+        with_version_byte(query, 0x00),
+        with_version_byte(&other_code, 0x02),
+        with_check_of_01(query, 0x10),
+        with_check_of_01(&other_code, 0xF2),
+        with_check_of_01(query, 0xF1),
+        with_reserved_bits(&messages[1], 0x1),
+        with_reserved_bits(&messages[2], 0x8),
+        with_reserved_bits(&messages[3], 0xF),
+    ])
 }
 
 /// A good start, then a record whose mark is wrong.

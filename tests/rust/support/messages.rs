@@ -151,6 +151,29 @@ pub fn other_announcements() -> Vec<Vec<u8>> {
     all
 }
 
+/// The message with any reserved bits in its version byte, and their check.
+pub fn with_reserved_bits(message: &[u8], bits: u8) -> Vec<u8> {
+    with_version_byte(message, bits << 4 | 0x01)
+}
+
+/// The message with another version byte, and its check.
+pub fn with_version_byte(message: &[u8], version: u8) -> Vec<u8> {
+    let mut other = message.to_vec();
+    other[2] = version;
+    set_check(&mut other);
+    other
+}
+
+/// Another version byte, mostly a good one with reserved bits; mostly with its check.
+pub fn other_version_byte(random: &mut Random, message: &[u8]) -> Vec<u8> {
+    let version = (random.below(16) as u8) << 4 | random.pick(&[1, 1, 1, 1, 0, 2, 9]);
+    let mut other = with_version_byte(message, version);
+    if random.once_in(4) {
+        other[4..6].copy_from_slice(&message[4..6]);
+    }
+    other
+}
+
 /// One random damage; sometimes with the check made right again, and sometimes one that the check does not show.
 pub fn damaged(random: &mut Random, message: &[u8]) -> Vec<u8> {
     let mut damaged = message.to_vec();

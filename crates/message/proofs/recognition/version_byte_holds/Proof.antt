@@ -1,4 +1,4 @@
--- `message::recognition::version_byte_holds` meets its contract: the byte, 0 where it is not there. Assumes nothing.
+-- `message::recognition::version_byte_holds` meets its contract: the byte's lower four bits, 0 where it is not there. Assumes nothing.
 use Rattle.message.specs.Recognition.{versionByteHolds}
 use borrow.Author.Needs.{needs}
 use Rattle.message.proofs.recognition.version_byte_holds.Statement.{statement}
