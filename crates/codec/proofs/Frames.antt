@@ -14,8 +14,8 @@ use Rattle.basis.specs.Bytes.{Bytes, wordAt, wordBytes, part}
 use Rattle.basis.proofs.Choosing.{and-left, and-right, passed}
 use Rattle.basis.proofs.Lists.{part-within}
 use Rattle.checksum.specs.Check.{checkOf, zeroed, messageCheck}
-use Rattle.message.specs.Recognition.{protocolVersion, startHolds, versionByteHolds, reservedBits, codeHolds, checkHolds, lengthHolds, recognition}
-use Rattle.codec.specs.Codec.{sealed, frame, rewritten}
+use Rattle.message.specs.Recognition.{protocolVersion, startHolds, versionByteHolds, codeHolds, checkHolds, lengthHolds, recognition}
+use Rattle.codec.specs.Codec.{sealed, frame}
 
 -- ---- the check field
 
@@ -99,9 +99,10 @@ pub framed-frame : (code : ℕ) (d : List ℕ) → framed protocolVersion code d
 unfolding frame framed
 framed-frame code d = refl
 
-pub framed-set : (version code : ℕ) (d : List ℕ) → framed version code d ≡ sealed (set (frame code d) 2 version)
-unfolding frame framed sealed messageCheck zeroed
-framed-set version code d = refl
+-- the version byte set, and the check made anew
+pub framed-set : (version other code : ℕ) (d : List ℕ) → sealed (set (framed other code d) 2 version) ≡ framed version code d
+unfolding framed sealed messageCheck zeroed
+framed-set version other code d = refl
 
 pub framed-code : (version code : ℕ) (d : List ℕ) → getD (framed version code d) 3 0 ≡ code
 unfolding framed sealed
@@ -133,38 +134,27 @@ framed-recognised version code d v low high =
       size = omega arith;
     }
 
--- ---- what is recognised is a frame, but for the reserved bits
+-- ---- what is recognised is a frame, with its own version byte
 
-sealed-zeroed : (m : List ℕ) → sealed (zeroed m) ≡ sealed m
-unfolding sealed zeroed
-sealed-zeroed m = rw (check-any-field m 0 0) (set-field m 0 0 _ _)
-
--- a message that has its check is sealed as itself
-sealed-same : (m : List ℕ) → Bytes m → wordAt m 4 ≡ messageCheck m → sealed m ≡ m
-unfolding sealed Bytes
-sealed-same m bytes e =
+resealed : (m : List ℕ) → Bytes m → wordAt m 4 ≡ messageCheck m → sealed (zeroed m) ≡ m
+unfolding sealed zeroed Bytes
+resealed m bytes e =
+    let c : messageCheck (set (set m 4 0) 5 0) ≡ wordAt m 4 = check-any-field m 0 0 ∙ sym e in
     let high : wordAt m 4 / 256 ≡ getD m 4 0 = omega (arith, bytes 5) in
     let low : wordAt m 4 % 256 ≡ getD m 5 0 = omega (arith, bytes 5) in
-    rw (← e, high, low, set-getD m 4 0, set-getD m 5 0)
+    rw (c, high, low, set-field m 0 0 (getD m 4 0) (getD m 5 0), set-getD m 4 0, set-getD m 5 0)
 
--- the message with the version byte 01 and its check field as 0000 is what a frame seals
+-- the message with its check field as 0000 is what a frame seals
 bare : (m : List ℕ) → Bytes m → Recognised m
-    → (0xFF ∷ 0xFE ∷ protocolVersion ∷ getD m 3 0 ∷ 0 ∷ 0 ∷ (wordBytes (length (drop 8 m)) ++ drop 8 m)) ≡ zeroed (set m 2 protocolVersion)
+    → (0xFF ∷ 0xFE ∷ getD m 2 0 ∷ getD m 3 0 ∷ 0 ∷ 0 ∷ (wordBytes (length (drop 8 m)) ++ drop 8 m)) ≡ zeroed m
 unfolding Bytes part zeroed
 bare m bytes r =
     let parts : part m 0 8 ++ drop 8 m ≡ m = ap (λ (l : List ℕ). l ++ drop 8 m) (part-within m 0 8 (r .whole)) ∙ take-append-drop 8 m in
     let size : length (drop 8 m) ≡ wordAt m 6 = length-drop 8 m ∙ sym (r .size) in
     let high : length (drop 8 m) / 256 ≡ getD m 6 0 = omega (arith, bytes 7) in
     let low : length (drop 8 m) % 256 ≡ getD m 7 0 = omega (arith, bytes 7) in
-    rw (high, low) (sym (ap (λ (l : List ℕ). zeroed (set l 2 protocolVersion)) (sym parts) ∙ rw (r .first, r .second)))
+    rw (high, low) (sym (ap zeroed (sym parts) ∙ rw (r .first, r .second)))
 
-pub recognised-frame : (m : List ℕ) → Bytes m → Recognised m → frame (getD m 3 0) (drop 8 m) ≡ rewritten m
-unfolding frame rewritten
-recognised-frame m bytes r = ap sealed (bare m bytes r) ∙ sealed-zeroed (set m 2 protocolVersion)
-
--- without reserved bits the version byte is 01 already
-pub rewritten-same : (m : List ℕ) → Bytes m → Recognised m → reservedBits m ≡ 0 → rewritten m ≡ m
-unfolding rewritten reservedBits
-rewritten-same m bytes r z =
-    let version : getD m 2 0 ≡ protocolVersion = omega (arith, r .version, z) in
-    rw (← version, set-getD m 2 0) (sealed-same m bytes (r .check))
+pub recognised-framed : (m : List ℕ) → Bytes m → Recognised m → framed (getD m 2 0) (getD m 3 0) (drop 8 m) ≡ m
+unfolding framed
+recognised-framed m bytes r = ap sealed (bare m bytes r) ∙ resealed m bytes (r .check)

@@ -10,12 +10,12 @@ use Rattle.basis.specs.Choice.{pick}
 use Rattle.basis.specs.Bytes.{Bytes, over}
 use Rattle.basis.proofs.Choosing.{pick-yes, pick-no, by-cases, and-left, and-right, refusal-among}
 use Rattle.basis.proofs.Lists.{same-true, same-refl, take-over}
-use Rattle.message.specs.Recognition.{protocolVersion, reservedBits, recognition}
+use Rattle.message.specs.Recognition.{protocolVersion, recognition}
 use Rattle.message.specs.Messages.{Table, toDevice, toGateway, Reading, found, refused}
-use Rattle.codec.specs.Codec.{sealed, frame, rewritten, Sent, bytesOf, readOf, writeOf, said}
-use Rattle.codec.specs.Demand2.{RoundTrips}
+use Rattle.codec.specs.Codec.{sealed, frame, Sent, bytesOf, readOf, writeOf, said}
+use Rattle.codec.specs.Demand2.{reservedBits, RoundTrips}
 use Rattle.codec.proofs.Frames.{length-frame, framed, framed-frame, framed-set, framed-code, framed-data, framed-recognised}
-use Rattle.codec.proofs.Frames.{Recognised, recognised, recognised-facts, recognised-frame, rewritten-same}
+use Rattle.codec.proofs.Frames.{Recognised, recognised, recognised-facts, recognised-framed}
 use Rattle.message.proofs.Tables.{Lawful, device-lawful, gateway-lawful}
 
 -- ---- reading
@@ -47,11 +47,21 @@ module _ (t : Table) (supported pcp : Bool) (bytes : List ℕ) where
       (λ _. omega arith))
       (λ z. omega (arith, eqb-false (recognition supported pcp bytes) 0 z, recognition-number supported pcp bytes))
 
+-- ---- writing: a message with any version byte, and the check made for it
+
+module _ (t : Table) (m : t .Message) where
+  versioned : (version : ℕ) → sealed (set (bytesOf t m) 2 version) ≡ framed version (t .code m) (t .content m)
+  unfolding bytesOf
+  versioned version = rw (← framed-frame (t .code m) (t .content m)) (framed-set version protocolVersion (t .code m) (t .content m))
+
+  version-written : getD (bytesOf t m) 2 0 ≡ protocolVersion
+  unfolding bytesOf frame sealed
+  version-written = refl
+
 -- ---- any lawful column
 
 module _ (t : Table) (lawful : Lawful t) where
   module _ (m : t .Message) (v : t .valid m ≡ true) where
-    -- whatever the version byte's reserved bits
     module _ (version : ℕ) (h : version % 16 ≡ protocolVersion) where
       framed-again : recognition true true (framed version (t .code m) (t .content m)) ≡ 0
       framed-again = let (low, high, _) = lawful .bounds m v in framed-recognised version (t .code m) (t .content m) h low high
@@ -80,11 +90,15 @@ module _ (t : Table) (lawful : Lawful t) where
     unfolding bytesOf
     read-again = rw (← framed-frame (t .code m) (t .content m)) (read-framed protocolVersion refl)
 
-    read-reserved : (bits : ℕ) → readOf t true true (sealed (set (bytesOf t m) 2 (bits * 16 + protocolVersion))) ≡ found m
-    unfolding bytesOf
-    read-reserved bits =
-        let version : ℕ = bits * 16 + protocolVersion in
-        rw (← framed-set version (t .code m) (t .content m)) (read-framed version (omega arith))
+    module _ (bits : ℕ) where
+      abbrev version : ℕ
+      version = bits * 16 + protocolVersion
+
+      with-reserved : readOf t true true (sealed (set (bytesOf t m) 2 version)) ≡ found m
+      with-reserved = rw (versioned t m version) (read-framed version (omega arith))
+
+      recognised-reserved : recognition true true (sealed (set (bytesOf t m) 2 version)) ≡ 0
+      recognised-reserved = rw (versioned t m version) (framed-again version (omega arith))
 
     sent : (buffer : List ℕ) → t .room ≤ length buffer
         → writeOf t (found m) buffer ≡ record { number = 0; length = length (bytesOf t m); buffer = over (bytesOf t m) buffer }
@@ -115,16 +129,29 @@ module _ (t : Table) (lawful : Lawful t) where
     code-in : t .code m ≡ getD bytes 3 0
     code-in = ap (t .code) (sym (told .fields)) ∙ lawful .code-kept (getD bytes 3 0) (drop 8 bytes) (header .low) (header .high)
 
-    written-again : Bytes bytes → bytesOf t m ≡ rewritten bytes
-    unfolding bytesOf
-    written-again b = ap₂ frame code-in (told .content) ∙ recognised-frame bytes b header
+    module _ (b : Bytes bytes) where
+      -- the bytes are the message with their own version byte
+      as-framed : framed (getD bytes 2 0) (t .code m) (t .content m) ≡ bytes
+      as-framed = ap₂ (framed (getD bytes 2 0)) code-in (told .content) ∙ recognised-framed bytes b header
 
-    written-same : Bytes bytes → reservedBits bytes ≡ 0 → bytesOf t m ≡ bytes
-    written-same b z = written-again b ∙ rewritten-same bytes b header z
+      version-in : getD bytes 2 0 ≡ reservedBits bytes * 16 + protocolVersion
+      unfolding reservedBits
+      version-in = omega (arith, header .version)
 
-    same-written : bytesOf t m ≡ bytes → reservedBits bytes ≡ 0
-    unfolding bytesOf frame sealed reservedBits
-    same-written e = rw (← e)
+      written-reserved : bytes ≡ sealed (set (bytesOf t m) 2 (reservedBits bytes * 16 + protocolVersion))
+      written-reserved = sym (rw (← version-in) (versioned t m (getD bytes 2 0) ∙ as-framed))
+
+      written-again : bytesOf t m ≡ sealed (set bytes 2 protocolVersion)
+      unfolding bytesOf
+      written-again =
+          sym (framed-frame (t .code m) (t .content m)) ∙ sym (framed-set protocolVersion (getD bytes 2 0) (t .code m) (t .content m))
+          ∙ ap (λ (l : List ℕ). sealed (set l 2 protocolVersion)) as-framed
+
+      written-same : reservedBits bytes ≡ 0 → bytesOf t m ≡ bytes
+      unfolding bytesOf
+      written-same z =
+          let one : getD bytes 2 0 ≡ protocolVersion = omega (arith, version-in, z) in
+          rw (one, framed-frame (t .code m) (t .content m)) at as-framed
 
     -- the facts do not matter once a message is found
     read-so : readOf t true true bytes ≡ found m
@@ -137,10 +164,12 @@ module _ (t : Table) (lawful : Lawful t) where
         written-only = λ m n v s p e. let f = read-so s p (bytesOf t m) n e in let g = read-again m v in cc;
         written-recognised = recognised-again;
         written-fits = fits;
-        reserved-read = read-reserved;
+        written-version = version-written t;
+        reserved-read = with-reserved;
+        reserved-recognised = recognised-reserved;
+        read-reserved = written-reserved;
         read-rewritten = written-again;
         read-written = written-same;
-        read-written-only = same-written;
         read-valid = λ s p bytes m e. told s p bytes m e .valid;
         read-code = code-in;
         refused-number = λ s p bytes n e. subst (Tells t s p bytes) e (read-tells t s p bytes);

@@ -1,4 +1,4 @@
--- Messages as bytes, read and written: one rule for both directions. Assumes nothing.
+-- Messages as bytes, read and written: one rule for both receivers. Assumes nothing.
 use Prim.Native.Nat.{ℕ, _/_, _%_}
 use mathlib.Core.Bool.{Bool, _&&_}
 use mathlib.Core.List.{List, _∷_, _++_}
@@ -18,10 +18,6 @@ sealed m = set (set m 4 (messageCheck m / 256)) 5 (messageCheck m % 256)
 -- FF FE, protocol version, message code, check (2), data length (2), data
 unfoldable pub frame : (code : ℕ) → List ℕ → List ℕ
 frame code d = sealed (0xFF ∷ 0xFE ∷ protocolVersion ∷ code ∷ 0 ∷ 0 ∷ (wordBytes (length d) ++ d))
-
--- the message as we would write it: its version byte without reserved bits, and its check made anew
-unfoldable pub rewritten : List ℕ → List ℕ
-rewritten m = sealed (set m 2 protocolVersion)
 
 -- what writing gives: the number, the length of what was written, and the buffer after it
 pub record Sent : Type 0 where

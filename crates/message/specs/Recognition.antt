@@ -1,6 +1,6 @@
--- 01, "Recognising a message": the numbers 1 to 7 in their order. A byte that is not there reads as 0, which no field before the check
+-- 01, "Recognising a message", as 02 (2026-01) amends it: the numbers 1 to 7 in their order. A byte that is not there reads as 0, which no field before the check
 -- allows, so a message too short to hold a field fails at that field. Assumes nothing.
-use Prim.Native.Nat.{ℕ, _-_, _/_, _%_}
+use Prim.Native.Nat.{ℕ, _-_, _%_}
 use mathlib.Core.Bool.{Bool, _&&_}
 use mathlib.Core.List.{List, [], _∷_}
 use lib.Dec.{eqb, leb}
@@ -22,14 +22,11 @@ protocolVersion = 0x01
 unfoldable pub versionByteHolds : List ℕ → Bool
 versionByteHolds m = eqb (getD m 2 0 % 16) protocolVersion
 
-unfoldable pub reservedBits : List ℕ → ℕ
-reservedBits m = getD m 2 0 / 16
-
 -- 5: the code
 unfoldable pub codeHolds : List ℕ → Bool
 codeHolds m = leb 19 (getD m 3 0) && leb (getD m 3 0) 24
 
--- 6: the check; 4 to 7 bytes fail here
+-- 6: the check, over the bytes as they came, reserved bits included; 4 to 7 bytes fail here
 unfoldable pub checkHolds : List ℕ → Bool
 checkHolds m = leb 8 (length m) && eqb (wordAt m 4) (messageCheck m)
 

@@ -15,7 +15,7 @@ pub use version::good_version;
 pub use version::same_version;
 pub use version::version_at;
 
-// The protocol version: what is written as a message's version byte.
+// The protocol version: what is written as the version byte, and what its lower four bits must be.
 pub const PROTOCOL_VERSION: u8 = 0x01;
 
 // The four fields of an announcement, which name a package: 01's version, size, total and code.

@@ -35,7 +35,7 @@ fn code_holds(message: &[u8]) -> bool
     (19 <= code) & (code <= 24)
 }
 
-// 6: the check, over the message with its check field as 0000.
+// 6: the check, over the message as it came, with its check field as 0000.
 fn check_holds(message: &[u8]) -> bool
     ensures { λ r. ⌜ r ≡ checkHolds (now (message .entry)) ⌝ }
 {
