@@ -1,5 +1,5 @@
--- 01, "Recognising a message", as 02 (2026-01) amends it: the numbers 1 to 7 in their order. A byte that is not there reads as 0, which no field before the check
--- allows, so a message too short to hold a field fails at that field. Assumes nothing.
+-- 01, "Recognising a message", as 02 (2026-01) amends it: the numbers 1 to 7 in their order. A byte that is not there reads as 0, which no field
+-- before the check allows, so a message too short to hold a field fails at that field. Assumes nothing.
 use Prim.Native.Nat.{ℕ, _-_, _%_}
 use mathlib.Core.Bool.{Bool, _&&_}
 use mathlib.Core.List.{List, [], _∷_}
