@@ -1,7 +1,6 @@
 -- Laws of the map of stored fragments: marking, clearing, counting, and the lowest missing index. Assumes nothing.
 use Prim.Native.Nat.{ℕ, zero, suc, _+_, _*_, _/_, _%_, _^_, _-_, _≤_, _<_, max}
 use native.Mathlib.Nat.{not-suc-le-zero, suc-inj, zero-div, div-self, div-eq-of-lt, div-one, pow-suc, mul-div-mul-right}
-use native.Mathlib.Numerals.{add-one}
 use native.Mathlib.Decide.{ℕ-discrete, decLe, decLt}
 use native.Mathlib.Omega.{arith}
 use mathlib.Core.Path.{_≡_, refl, sym, _∙_, ap}
@@ -194,22 +193,6 @@ at-missing map i zero = λ l. let none : ⊥ = omega arith in absurd none
 at-missing map i (suc n) =
     by-cases (λ (x : ℕ). x < i + suc n → marked map x ≡ false) (λ t l. at-missing map (suc i) n (omega arith)) (λ t l. t)
 
--- a search from i on: one step, and its ends
-step-left : (i total : ℕ) → i < total → total - i ≡ suc (total - (i + 1))
-step-left i total l = omega arith
-
-pub missing-here : (map : List ℕ) (i total : ℕ) → i < total → marked map i ≡ false → missingFrom map i (total - i) ≡ i
-unfolding missingFrom
-missing-here map i total l t = rw (step-left i total l) (pick-no _ _ _ t)
-
-pub missing-later : (map : List ℕ) (i total : ℕ) → i < total → marked map i ≡ true
-    → missingFrom map i (total - i) ≡ missingFrom map (i + 1) (total - (i + 1))
-unfolding missingFrom
-missing-later map i total l t = rw (step-left i total l, add-one i) (pick-yes _ _ _ t)
-
-pub missing-none : (map : List ℕ) (i total : ℕ) → total ≤ i → missingFrom map i (total - i) ≡ i
-missing-none map i total l = omega (arith, missingFrom-range map i (total - i))
-
 -- of the whole map: all below the lowest missing index are set, it is not set, and it is below total where any is missing
 pub lowest-le : (map : List ℕ) (total : ℕ) → lowestMissing map total ≤ total
 unfolding lowestMissing
@@ -235,3 +218,13 @@ lowest-first map total j e = first (decLe (lowestMissing map total) j)
     first : Dec (lowestMissing map total ≤ j) → lowestMissing map total ≤ j
     first (yes l) = l
     first (no l) = absurd (true≢false (sym (lowest-below map total j (omega arith)) ∙ e))
+
+-- no other index is such
+pub lowest-unique : (map : List ℕ) (total x : ℕ) → x ≤ total → ((j : ℕ) → j < x → marked map j ≡ true) → (x < total → marked map x ≡ false)
+    → x ≡ lowestMissing map total
+lowest-unique map total x most below here = only (decLt x (lowestMissing map total)) (decLt (lowestMissing map total) x)
+  where
+    only : Dec (x < lowestMissing map total) → Dec (lowestMissing map total < x) → x ≡ lowestMissing map total
+    only (yes l) k = absurd (true≢false (sym (lowest-below map total x l) ∙ here (omega (arith, lowest-le map total))))
+    only (no l) (yes k) = absurd (true≢false (sym (below (lowestMissing map total) k) ∙ lowest-missing map total (omega arith)))
+    only (no l) (no k) = omega arith

@@ -1,9 +1,11 @@
 // The map of stored fragments: a bit for each, in bytes that the caller lends. Bit index mod 8 of
 // byte index/8 is the fragment's, lowest first.
 ghost use mathlib.Core.Path.{_≡_};
-ghost use Prim.Native.Nat.{_^_, _%_, min};
+ghost use mathlib.Core.List.{[], _∷_};
+ghost use Prim.Native.Nat.{_^_, _%_, _≤_, _<_, min};
 ghost use lib.ListN.{length};
 ghost use Rattle.bitmap.specs.Bitmap.{marked, mark, cleared, lowestMissing};
+ghost use Rattle.bitmap.specs.Inner.{full, Skipped};
 
 // The weight of an index's bit in its byte.
 fn weight(index: usize) -> u8
@@ -41,16 +43,50 @@ pub fn clear(map: &mut [u8], n: usize)
     }
 }
 
-// The lowest index below total whose bit is not set, or total where all are set.
+// Every bit of these bytes is set. It looks at all of them, so that the compiler can test eight at once.
+fn full(bytes: &[u8]) -> bool
+    ensures { λ r. ⌜ r ≡ full (now (bytes .entry)) ⌝ }
+{
+    let mut all = true;
+    let mut i = 0;
+    while i < bytes.len() {
+        all = all & (bytes[i] == 255);
+        i += 1;
+    }
+    all
+}
+
+// Passes over full bytes, so many at a time, from a place on and up to end.
+fn skip_full(map: &[u8], from: usize, end: usize, width: usize) -> usize
+    requires { ⌜ (0 < width) × (from ≤ end) × (end ≤ length (now map)) ⌝ }
+    ensures { λ r. ⌜ Skipped (now (map .entry)) from end width r ⌝ }
+{
+    let mut at = from;
+    while width <= end - at {
+        if !full(&map[at..at + width]) {
+            return at;
+        }
+        at += width;
+    }
+    at
+}
+
+// The lowest bit of a byte that is not set, 8 where all are set.
+fn lowest_clear(byte: u8) -> usize
+    ensures { λ r. ⌜ r ≡ lowestMissing (byte ∷ []) 8 ⌝ }
+{
+    u8::trailing_zeros(!byte) as usize
+}
+
+// The lowest index below total whose bit is not set, or total where all are set. Full bytes are passed
+// over by eights, then one by one; in the byte that is not full, or that total ends in, the bit is found.
 pub fn lowest_missing(map: &[u8], total: usize) -> usize
     ensures { λ r. ⌜ r ≡ lowestMissing (now (map .entry)) total ⌝ }
 {
-    let mut i = 0;
-    while i < total {
-        if !marked(map, i) {
-            return i;
-        }
-        i += 1;
-    }
-    total
+    let end = basis::least(total / 8, map.len());
+    let near = skip_full(map, 0, end, 8);
+    let at = skip_full(map, near, end, 1);
+    let from = 8 * at;
+    let left = total - from;
+    from + basis::least(lowest_clear(basis::byte_at(map, at)), left)
 }

@@ -1,62 +1,55 @@
--- `bitmap::lowest_missing` meets its contract: the invariant: what is left to search gives the same index as the whole. Assumes nothing.
-use borrow.Author.Tests.{not-true, not-false}
+-- `bitmap::lowest_missing` meets its contract: the two passes over full bytes and the byte behind them give the index. Assumes nothing.
 use borrow.Author.Needs.{needs}
-use Prim.Native.Nat.{_≤_, _-_}
 use native.Mathlib.Omega.{arith}
-use native.Mathlib.Nat.{sub-zero}
-use mathlib.Core.Path.{_≡_, sym, _∙_}
-use Rattle.bitmap.specs.Bitmap.{missingFrom, lowestMissing}
-use Rattle.bitmap.proofs.Bitmaps.{missing-here, missing-later, missing-none}
+use Rattle.bitmap.proofs.FullBytes.{lowest-found}
 use Rattle.bitmap.proofs.lowest_missing.Statement.{statement}
 use Rattle.bitmap.proofs.lowest_missing.Tie as tie
 
-abbrev Inv-loop : tie.InvT-loop
-Inv-loop map total i₀ i = (i ≤ total) × (missingFrom map i (total - i) ≡ lowestMissing map total)
+least-requires : tie.Need-least-requires
+least-requires c κs = search needs
 
-abbrev μ-loop : tie.MeasureT-loop
-μ-loop map total i₀ i = total - i
+skip-full-requires : tie.Need-skip-full-requires
+skip-full-requires c κs = search needs
 
-loop-holds : tie.Need-loop-holds Inv-loop μ-loop
-unfolding lowestMissing
-loop-holds c = (omega arith, rw sub-zero)
+skip-full-requires-2 : tie.Need-skip-full-requires-2
+skip-full-requires-2 c κs = search needs
 
-marked-requires : tie.Need-marked-requires Inv-loop μ-loop
-marked-requires c κs = search needs
+mul-from : tie.Need-mul-from
+mul-from c = search needs
 
-returns : tie.Need-returns Inv-loop μ-loop
-returns c = sym (missing-here _ _ _ (c .before .before .loop-test .taken) (sym (c .before .marked .ensures) ∙ not-true _ (c .if1 .taken)))
-    ∙ c .before .before .before .loop .inv .1
+sub-left : tie.Need-sub-left
+sub-left c = search needs
 
-add-i : tie.Need-add-i Inv-loop μ-loop
-add-i c = omega arith
+byte-at-requires : tie.Need-byte-at-requires
+byte-at-requires c κs = search needs
 
-loop-less : tie.Need-loop-less Inv-loop μ-loop
-loop-less c = omega arith
+lowest-clear-requires : tie.Need-lowest-clear-requires
+lowest-clear-requires c κs = search needs
 
-loop-again : tie.Need-loop-again Inv-loop μ-loop
-loop-again c = (
-  omega arith,
-  sym (missing-later _ _ _ (c .before .before .loop-test .taken)
-      (sym (c .before .marked .ensures) ∙ not-false _ (c .if1 .left))) ∙ c .before .before .before .loop .inv .1,
-)
+least-requires-2 : tie.Need-least-requires-2
+least-requires-2 c κs = search needs
 
-returns-2 : tie.Need-returns-2 Inv-loop μ-loop
-returns-2 c = omega (
-  arith,
-  missing-none (c .before .before .before .args .map .now) (c .before .loop .i) (c .before .before .before .args .total)
-      (c .loop-test .left),
-)
+add-result : tie.Need-add-result
+add-result c = search needs
+
+returns : tie.Need-returns
+returns c =
+    rw (c .least2 .ensures, c .before .lowest-clear .ensures, c .before .before .byte-at .ensures)
+    (lowest-found _ _ _ _ _ (c .before .before .before .before .before .least .ensures) (c .before .before .before .before .skip-full .ensures)
+    (c .before .before .before .skip-full2 .ensures)
+    (omega (arith, c .before .before .before .before .before .before .shared-slice-known .given (c .before .before .before .skip-full2 .result))))
 
 pub lowest-missing-spec : {M : Type 1} → statement M
 lowest-missing-spec =
     tie.close
     (tie.spec
-    Inv-loop
-    μ-loop
-    loop-holds
-    marked-requires
-    returns
-    add-i
-    loop-less
-    loop-again
-    returns-2)
+    least-requires
+    skip-full-requires
+    skip-full-requires-2
+    mul-from
+    sub-left
+    byte-at-requires
+    lowest-clear-requires
+    least-requires-2
+    add-result
+    returns)
