@@ -72,10 +72,10 @@ fn skip_full(map: &[u8], from: usize, end: usize, width: usize) -> usize
 }
 
 // The lowest bit of a byte that is not set, 8 where all are set.
-fn lowest_clear(byte: u8) -> usize
+fn lowest_clear(byte: u8) -> u32
     ensures { λ r. ⌜ r ≡ lowestMissing (byte ∷ []) 8 ⌝ }
 {
-    u8::trailing_zeros(!byte) as usize
+    u8::trailing_zeros(!byte)
 }
 
 // The lowest index below total whose bit is not set, or total where all are set. Full bytes are passed
@@ -88,5 +88,6 @@ pub fn lowest_missing(map: &[u8], total: usize) -> usize
     let at = skip_full(map, near, end, 1);
     let from = 8 * at;
     let left = total - from;
-    from + basis::least(lowest_clear(basis::byte_at(map, at)), left)
+    let bit = lowest_clear(basis::byte_at(map, at));
+    from + basis::least(bit as usize, left)
 }

@@ -26,6 +26,9 @@ byte-at-requires c κs = search needs
 lowest-clear-requires : tie.Need-lowest-clear-requires
 lowest-clear-requires c κs = search needs
 
+cast-least : tie.Need-cast-least
+cast-least c = search needs
+
 least-requires-2 : tie.Need-least-requires-2
 least-requires-2 c κs = search needs
 
@@ -50,6 +53,7 @@ lowest-missing-spec =
     sub-left
     byte-at-requires
     lowest-clear-requires
+    cast-least
     least-requires-2
     add-result
     returns)
