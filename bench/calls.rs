@@ -4,6 +4,7 @@ use crate::ends::{DeviceEnd, GatewayEnd, Library, Memory, Plain, Side};
 use crate::measure::{compare, timed, Times};
 use crate::upgrade::offered;
 use pcp::{Code, DEVICE_REPLY, GATEWAY_REPLY};
+use plain::search::{by_bits, by_bytes, by_eights, Search};
 use std::time::Duration;
 
 const ROUNDS: usize = 301;
@@ -73,13 +74,38 @@ pub fn asking<'a>(
         library.receive(&messages[before..stored]);
         plain.receive(&messages[before..stored]);
         before = stored;
-        (stored, asked(&mut library, &mut plain, if stored < 1_000 { 1_000 } else { 20 }))
+        (stored, asked(&mut library, &mut plain))
     })
 }
 
-fn asked(library: &mut Loading<Library>, plain: &mut Loading<Plain>, calls: usize) -> Times {
+fn asked(library: &mut Loading<Library>, plain: &mut Loading<Plain>) -> Times {
     assert_eq!(library.ask(), plain.ask());
+    let calls = 1_000;
     compare(101, calls, || repeated(calls, || library.ask().len()), || repeated(calls, || plain.ask().len()))
+}
+
+/// The device is asked when only the last fragment is missing, against each search of plain Rust in the same map: on one
+/// side a whole message, on the other the index alone.
+pub fn searched(size: u16, package: &[u8]) -> Vec<(&'static str, Times)> {
+    let messages = fragment_messages(size, package);
+    let mut library = Loading::<Library>::new(size, package);
+    library.receive(&messages[..messages.len() - 1]);
+    let (map, total) = (library.memory.map.clone(), messages.len() as u16);
+    let against = |(name, search): (&'static str, Search)| {
+        assert_eq!(search(&map, total), Some(total - 1));
+        let calls = 100;
+        let times = compare(
+            101,
+            calls,
+            || repeated(calls, || library.ask().len()),
+            || repeated(calls, || search(&map, total)),
+        );
+        (name, times)
+    };
+    [("every bit", by_bits as Search), ("byte by byte", by_bytes), ("eight bytes at a time", by_eights)]
+        .into_iter()
+        .map(against)
+        .collect()
 }
 
 fn fragment_messages(size: u16, package: &[u8]) -> Vec<Vec<u8>> {

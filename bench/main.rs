@@ -1,18 +1,22 @@
-//! The speed of the library against plain Rust: see docs/BENCHMARKS.md. Before anything is timed, both have given the
-//! same results.
+//! `bench PICTURE` measures the speed of the library against plain Rust, see docs/BENCHMARKS.md, and draws what an upgrade
+//! costs for each fragment. Before anything is timed, both have given the same results.
 
 mod calls;
 mod ends;
 mod measure;
+mod plot;
 mod upgrade;
 
 use measure::Times;
+use plot::Line;
+use std::{env, fs};
 
 /// A fragment's size: the most, and the least.
 const LARGE: u16 = 500;
 const SMALL: u16 = 32;
 
 fn main() {
+    let picture = env::args().nth(1).expect("usage: bench PICTURE");
     println!("{:<36} {:>12} {:>12} {:>7}", "", "library", "plain", "ratio");
     println!("the check, ns for each byte");
     for (length, calls, rounds) in [(16, 20_000, 301), (500, 1_000, 301), (8 << 20, 1, 21)] {
@@ -28,16 +32,26 @@ fn main() {
     for (stored, times) in calls::asking(SMALL, &package, &[0, 600, 6_000, 30_000, 59_999]) {
         print_row(&format!("{stored} of {total} stored"), &times);
     }
+    println!("the same with the last missing, against plain searches alone");
+    for (search, times) in calls::searched(SMALL, &package) {
+        print_row(search, &times);
+    }
     println!("a whole upgrade, ns for each fragment of {LARGE} bytes");
-    for (length, rounds) in [(64 << 10, 101), (512 << 10, 41), (4 << 20, 15), (8 << 20, 11), (16 << 20, 7)] {
-        for (ends, times) in upgrade::compared(LARGE, &bytes(length), rounds) {
-            print_row(&format!("{:>5} KiB, {ends}", length >> 10), &times);
+    let mut lines = [Line::new("library"), Line::new("plain Rust")];
+    for (kib, rounds) in [(64, 101), (256, 61), (1 << 10, 41), (4 << 10, 25), (8 << 10, 21), (16 << 10, 15)] {
+        for (ends, times) in upgrade::compared(LARGE, &bytes(kib << 10), rounds) {
+            print_row(&format!("{kib:>5} KiB, {ends}"), &times);
+            if ends == upgrade::BOTH {
+                lines[0].points.push((kib, times.library));
+                lines[1].points.push((kib, times.plain));
+            }
         }
     }
+    fs::write(&picture, plot::cost_by_package(&lines)).expect("the picture is written");
 }
 
 fn print_row(name: &str, times: &Times) {
-    println!("  {name:<34} {:>12.2} {:>12.2} {:>7.2}", times.library, times.plain, times.ratio());
+    println!("  {name:<34} {:>12.2} {:>12.2} {:>7.2}", times.library, times.plain, times.ratio);
 }
 
 /// Bytes that do not repeat with the fragments.

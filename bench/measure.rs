@@ -1,18 +1,13 @@
-//! Timing: the rounds of both sides alternate, and their medians are compared.
+//! Timing: the rounds of both sides alternate, and are compared in pairs.
 
 use std::time::{Duration, Instant};
 
-/// Median times of the two sides, in nanoseconds per unit.
+/// Median times of the two sides, in nanoseconds per unit, and the median of the ratios of their pairs of rounds: 1 is
+/// equal, and more is slower. What else the machine does meets both of a pair, or a few pairs only.
 pub struct Times {
     pub library: f64,
     pub plain: f64,
-}
-
-impl Times {
-    /// 1 is equal, and more is slower.
-    pub fn ratio(&self) -> f64 {
-        self.library / self.plain
-    }
+    pub ratio: f64,
 }
 
 /// How long the work takes. What is around it is not timed.
@@ -29,13 +24,22 @@ pub fn compare(
     mut library: impl FnMut() -> Duration,
     mut plain: impl FnMut() -> Duration,
 ) -> Times {
-    let mut one_round = |_| (library(), plain());
+    let mut one_round = |_| (for_each(units, library()), for_each(units, plain()));
     one_round(0); // brings code and data into the caches
-    let (library, plain) = (0..rounds).map(one_round).unzip();
-    Times { library: median(library, units), plain: median(plain, units) }
+    let pairs: Vec<(f64, f64)> = (0..rounds).map(one_round).collect();
+    Times {
+        library: median(pairs.iter().map(|pair| pair.0)),
+        plain: median(pairs.iter().map(|pair| pair.1)),
+        ratio: median(pairs.iter().map(|pair| pair.0 / pair.1)),
+    }
 }
 
-fn median(mut times: Vec<Duration>, units: usize) -> f64 {
-    times.sort();
-    times[times.len() / 2].as_nanos() as f64 / units as f64
+fn for_each(units: usize, time: Duration) -> f64 {
+    time.as_nanos() as f64 / units as f64
+}
+
+fn median(values: impl Iterator<Item = f64>) -> f64 {
+    let mut values: Vec<f64> = values.collect();
+    values.sort_by(f64::total_cmp);
+    values[values.len() / 2]
 }

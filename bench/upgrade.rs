@@ -117,6 +117,9 @@ impl Upgrades<'_> {
     }
 }
 
+/// A comparison of whole upgrades by name: with both ends, beside which each end stands alone.
+pub const BOTH: &str = "both ends";
+
 /// The times for each fragment.
 pub fn compared(size: u16, package: &[u8], rounds: usize) -> [(&'static str, Times); 3] {
     let seen = &record::<Library>(size, package);
@@ -127,7 +130,7 @@ pub fn compared(size: u16, package: &[u8], rounds: usize) -> [(&'static str, Tim
     let start = || Upgrades { size, package, memory: Memory::new(size, package), seen };
     let (mut library, mut plain) = (start(), start());
     [
-        ("both ends", compare(rounds, total, || library.both::<Library>(), || plain.both::<Plain>())),
+        (BOTH, compare(rounds, total, || library.both::<Library>(), || plain.both::<Plain>())),
         ("device alone", compare(rounds, total, || library.device::<Library>(), || plain.device::<Plain>())),
         (
             "gateway alone",

@@ -85,6 +85,16 @@ rust_host() {
     rust_program "$1" "$2" "${with_wrapper[@]}" -C link-arg="$archive" "${@:3}"
 }
 
+# plain_rust: builds both ends in plain Rust, a crate of its own, so that neither side is inlined into what times it. Its
+# functions begin at cache lines: where the linker puts them must not change their speed.
+plain_rust() {
+    rust_program bench/plain/lib.rs libplain.rlib --crate-name plain --crate-type rlib -C codegen-units=1 \
+        -C llvm-args=-align-all-functions=6
+}
+
+# What a Rust program needs so that it finds this one.
+with_plain=(--extern plain=target/hosts/libplain.rlib)
+
 # crate COMMAND FLAG..: cargo's command on the crate of hosts/rust, from what is here alone.
 crate() {
     cargo "$1" --quiet --offline --locked --manifest-path hosts/rust/Cargo.toml --target-dir target/cargo "${@:2}"

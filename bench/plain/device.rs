@@ -2,6 +2,7 @@
 
 use crate::check::check;
 use crate::message::{self, is_outcome, is_size, is_version, Announcement, Facts, ToDevice, Version};
+use crate::search::{by_bytes, map_length};
 use crate::{number, require, Answer};
 
 const IDLE: u8 = 0;
@@ -94,7 +95,7 @@ impl Device {
         self.test(image, map)?;
         match self.phase {
             LOADING => {
-                let index = lowest_missing(map, self.total).ok_or(number::BAD_RECORD)?;
+                let index = by_bytes(map, self.total).ok_or(number::BAD_RECORD)?;
                 Ok(message::write(reply, message::FRAGMENT, &[&self.target, &index.to_be_bytes()]))
             }
             LOADED => Ok(message::write(reply, message::DOWNLOAD, &[&[ACCEPTED]])),
@@ -252,16 +253,4 @@ fn is_condition(condition: u8) -> bool {
 /// What fragments of this size take in the image.
 fn room(size: u16, total: u16) -> usize {
     usize::from(size) * usize::from(total)
-}
-
-fn map_length(total: u16) -> usize {
-    (usize::from(total) + 7) / 8
-}
-
-/// Bytes of eight stored fragments are passed over whole.
-fn lowest_missing(map: &[u8], total: u16) -> Option<u16> {
-    let map = &map[..map_length(total)];
-    let byte = map.iter().position(|&byte| byte != 0xFF)?;
-    let index = 8 * byte + map[byte].trailing_ones() as usize;
-    u16::try_from(index).ok().filter(|&index| index < total)
 }

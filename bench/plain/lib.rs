@@ -1,6 +1,6 @@
 //! Both ends of PCP in plain Rust, for the library to be measured against: what an engineer would write who has only
 //! 01's rules to keep. It has the same duties in each call: the tests of record and lent memory, recognition with the
-//! check, the tests of the data, storing, and the reply. It shares no code with the library or with the tests.
+//! check, the tests of the data, storing, and the reply. It shares no code with the library or with the tests' readings.
 //!
 //! It is a crate of its own, so that its calls stay calls, as those of the library do.
 
@@ -10,6 +10,7 @@ pub mod check;
 pub mod device;
 pub mod gateway;
 pub mod message;
+pub mod search;
 
 pub use device::Device;
 pub use gateway::Gateway;
