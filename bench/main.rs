@@ -51,7 +51,8 @@ fn main() {
 }
 
 fn print_row(name: &str, times: &Times) {
-    println!("  {name:<34} {:>12.2} {:>12.2} {:>7.2}", times.library, times.plain, times.ratio);
+    let digits = if times.ratio < 0.1 { 3 } else { 2 };
+    println!("  {name:<34} {:>12.2} {:>12.2} {:>7.digits$}", times.library, times.plain, times.ratio);
 }
 
 /// Bytes that do not repeat with the fragments.

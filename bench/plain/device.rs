@@ -2,7 +2,7 @@
 
 use crate::check::check;
 use crate::message::{self, is_outcome, is_size, is_version, Announcement, Facts, ToDevice, Version};
-use crate::search::{by_bytes, map_length};
+use crate::search::{by_eights, map_length};
 use crate::{number, require, Answer};
 
 const IDLE: u8 = 0;
@@ -95,7 +95,7 @@ impl Device {
         self.test(image, map)?;
         match self.phase {
             LOADING => {
-                let index = by_bytes(map, self.total).ok_or(number::BAD_RECORD)?;
+                let index = by_eights(map, self.total).ok_or(number::BAD_RECORD)?;
                 Ok(message::write(reply, message::FRAGMENT, &[&self.target, &index.to_be_bytes()]))
             }
             LOADED => Ok(message::write(reply, message::DOWNLOAD, &[&[ACCEPTED]])),
