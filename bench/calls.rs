@@ -74,11 +74,11 @@ pub fn asking<'a>(
         library.receive(&messages[before..stored]);
         plain.receive(&messages[before..stored]);
         before = stored;
-        (stored, asked(&mut library, &mut plain))
+        (stored, ask(&mut library, &mut plain))
     })
 }
 
-fn asked(library: &mut Loading<Library>, plain: &mut Loading<Plain>) -> Times {
+fn ask(library: &mut Loading<Library>, plain: &mut Loading<Plain>) -> Times {
     assert_eq!(library.ask(), plain.ask());
     let calls = 1_000;
     compare(101, calls, || repeated(calls, || library.ask().len()), || repeated(calls, || plain.ask().len()))
@@ -93,6 +93,7 @@ pub fn searched(size: u16, package: &[u8]) -> Vec<(&'static str, Times)> {
     let (map, total) = (library.memory.map.clone(), messages.len() as u16);
     let against = |(name, search): (&'static str, Search)| {
         assert_eq!(search(&map, total), Some(total - 1));
+        assert!(library.ask().ends_with(&(total - 1).to_be_bytes()));
         let calls = 100;
         let times = compare(
             101,

@@ -47,7 +47,7 @@ fn main() {
             }
         }
     }
-    fs::write(&picture, plot::cost_by_package(&lines)).expect("the picture is written");
+    fs::write(&picture, plot::cost_by_package(LARGE, &lines)).expect("the picture is written");
 }
 
 fn print_row(name: &str, times: &Times) {

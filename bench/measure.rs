@@ -24,7 +24,7 @@ pub fn compare(
     mut library: impl FnMut() -> Duration,
     mut plain: impl FnMut() -> Duration,
 ) -> Times {
-    let mut one_round = |_| (for_each(units, library()), for_each(units, plain()));
+    let mut one_round = |_| (per_unit(units, library()), per_unit(units, plain()));
     one_round(0); // brings code and data into the caches
     let pairs: Vec<(f64, f64)> = (0..rounds).map(one_round).collect();
     Times {
@@ -34,7 +34,7 @@ pub fn compare(
     }
 }
 
-fn for_each(units: usize, time: Duration) -> f64 {
+fn per_unit(units: usize, time: Duration) -> f64 {
     time.as_nanos() as f64 / units as f64
 }
 

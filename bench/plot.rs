@@ -14,7 +14,7 @@ const COLOURS: [&str; 2] = ["#3b6ea5", "#b58a2f"];
 
 const STYLE: &str = "\
 text { font-family: 'DejaVu Sans', Verdana, Helvetica, Arial, sans-serif; font-size: 12px; fill: #24292f; }
-text.name { font-size: 14px; font-weight: bold; }
+text.title { font-size: 14px; font-weight: bold; }
 rect.ground { fill: #ffffff; stroke: #d0d7de; stroke-width: 1.5; }
 line.grid { stroke: #d0d7de; }
 polyline { fill: none; stroke-width: 2; }
@@ -32,29 +32,30 @@ impl Line {
     }
 }
 
-pub fn cost_by_package(lines: &[Line; 2]) -> String {
+/// The lines, of upgrades with fragments of this size.
+pub fn cost_by_package(fragment: u16, lines: &[Line; 2]) -> String {
     let sizes: Vec<usize> = lines[0].points.iter().map(|point| point.0).collect();
     let highest = lines.iter().flat_map(|line| &line.points).fold(0.0, |most: f64, point| most.max(point.1));
     let axes =
         Axes { least: sizes[0], most: sizes[sizes.len() - 1], microseconds: (highest / 1e3).ceil() as usize };
 
-    let mut shapes =
-        text("name", LEFT, 34.0, "start", "A whole upgrade, both ends: cost for each fragment of 500 bytes");
+    let title = format!("A whole upgrade, both ends: cost for each fragment of {fragment} bytes");
+    let mut shapes = text(" class=\"title\"", LEFT, 34.0, "start", &title);
     for cost in 0..=axes.microseconds {
         let y = axes.y(1e3 * cost as f64);
         shapes +=
             &format!("<line class=\"grid\" x1=\"{LEFT}\" y1=\"{y:.1}\" x2=\"{RIGHT}\" y2=\"{y:.1}\"/>\n");
-        shapes += &text("label", LEFT - 8.0, y + 4.0, "end", &format!("{cost} µs"));
+        shapes += &label(LEFT - 8.0, y + 4.0, "end", &format!("{cost} µs"));
     }
     for kib in sizes {
-        shapes += &text("label", axes.x(kib), BOTTOM + 22.0, "middle", &size(kib));
+        shapes += &label(axes.x(kib), BOTTOM + 22.0, "middle", &size(kib));
     }
-    shapes += &text("label", (LEFT + RIGHT) / 2.0, BOTTOM + 44.0, "middle", "package");
+    shapes += &label((LEFT + RIGHT) / 2.0, BOTTOM + 44.0, "middle", "package");
     for (at, (line, colour)) in lines.iter().zip(COLOURS).enumerate() {
         shapes += &axes.drawn(line, colour);
         let left = LEFT + 130.0 * at as f64;
         shapes += &format!("<rect x=\"{left}\" y=\"50\" width=\"12\" height=\"12\" fill=\"{colour}\"/>\n");
-        shapes += &text("label", left + 20.0, 61.0, "start", line.name);
+        shapes += &label(left + 20.0, 61.0, "start", line.name);
     }
     format!(
         "<svg xmlns=\"http://www.w3.org/2000/svg\" width=\"{WIDTH}\" height=\"{HEIGHT}\" viewBox=\"0 0 {WIDTH} {HEIGHT}\">\n\
@@ -94,8 +95,12 @@ impl Axes {
     }
 }
 
-fn text(class: &str, x: f64, y: f64, anchor: &str, text: &str) -> String {
-    format!("<text class=\"{class}\" x=\"{x:.1}\" y=\"{y:.1}\" text-anchor=\"{anchor}\">{text}</text>\n")
+fn label(x: f64, y: f64, anchor: &str, words: &str) -> String {
+    text("", x, y, anchor, words)
+}
+
+fn text(class: &str, x: f64, y: f64, anchor: &str, words: &str) -> String {
+    format!("<text{class} x=\"{x:.1}\" y=\"{y:.1}\" text-anchor=\"{anchor}\">{words}</text>\n")
 }
 
 fn size(kib: usize) -> String {

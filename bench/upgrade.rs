@@ -117,7 +117,7 @@ impl Upgrades<'_> {
     }
 }
 
-/// A comparison of whole upgrades by name: with both ends, beside which each end stands alone.
+/// The comparison with both ends of a side; the others time one end.
 pub const BOTH: &str = "both ends";
 
 /// The times for each fragment.

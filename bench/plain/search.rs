@@ -1,4 +1,4 @@
-//! The lowest missing fragment in the map, by three searches. The device's is the fastest, that by eights.
+//! The lowest missing fragment in the map, by three searches. The plain device uses the fastest, by eights.
 
 /// A search in a map, of so many fragments: the lowest whose bit is not set, if there is one.
 pub type Search = fn(&[u8], u16) -> Option<u16>;

@@ -1,7 +1,7 @@
 -- Laws of the map of stored fragments: marking, clearing, counting, and the lowest missing index. Assumes nothing.
 use Prim.Native.Nat.{ℕ, zero, suc, _+_, _*_, _/_, _%_, _^_, _-_, _≤_, _<_, max}
 use native.Mathlib.Nat.{not-suc-le-zero, suc-inj, zero-div, div-self, div-eq-of-lt, div-one, pow-suc, mul-div-mul-right}
-use native.Mathlib.Decide.{ℕ-discrete, decLe, decLt}
+use native.Mathlib.Decide.{ℕ-discrete, decLt}
 use native.Mathlib.Omega.{arith}
 use mathlib.Core.Path.{_≡_, refl, sym, _∙_, ap}
 use mathlib.Core.Bool.{true, false, true≢false}
@@ -9,6 +9,7 @@ use mathlib.Core.List.{List}
 use lib.Dec.{eqb}
 use lib.Arith.{lt-of-le-ne}
 use lib.Bits.{bitOr, or-shr, or-step}
+use lib.Pow.{pow-pos}
 use lib.ListN.{length, drop, getD, set, replicate, length-set, length-append, length-drop, length-replicate, getD-replicate, List·getD-append}
 use lib.Seq.{getD-set-same, getD-set-other, set-out, drop-append-add, drop-drop}
 use borrow.Author.Fill.{fill-more}
@@ -24,19 +25,15 @@ use Rattle.bitmap.specs.Bitmap.{marked, mark, cleared, setBits, missingF
 abbrev bit : ℕ → ℕ → ℕ
 bit a k = a / 2 ^ k % 2
 
-power-pos : (k : ℕ) → 0 < 2 ^ k
-power-pos zero = omega arith
-power-pos (suc k) = omega (arith, power-pos k)
-
 bit-or : (a b k : ℕ) → bit (bitOr a b) k ≡ max (bit a k) (bit b k)
 bit-or a b k = rw (or-shr a b k, or-step (a / 2 ^ k) (b / 2 ^ k)) (omega arith)
 
 bit-power-same : (k : ℕ) → bit (2 ^ k) k ≡ 1
-bit-power-same k = rw (div-self (power-pos k))
+bit-power-same k = rw (div-self (pow-pos k))
 
 bit-power-other : (j k : ℕ) → (j ≡ k → ⊥) → bit (2 ^ j) k ≡ 0
 bit-power-other zero zero h = absurd (h refl)
-bit-power-other zero (suc k) h = rw (div-eq-of-lt {n = 1} {m = 2 ^ suc k} (omega (arith, power-pos k)))
+bit-power-other zero (suc k) h = rw (div-eq-of-lt {n = 1} {m = 2 ^ suc k} (omega (arith, pow-pos k)))
 bit-power-other (suc j) zero h = rw (div-one) (omega arith)
 bit-power-other (suc j) (suc k) h =
     rw (pow-suc 2 j, pow-suc 2 k, mul-div-mul-right {m = 2} (2 ^ j) (2 ^ k) (omega arith)) (bit-power-other j k (λ e. h (ap suc e)))
@@ -103,6 +100,8 @@ pub cleared-more : (n : ℕ) (map : List ℕ) → n < length map → set (cleare
 unfolding cleared over
 cleared-more n map h = rw (length-replicate {A = ℕ} n 0, length-replicate {A = ℕ} (n + 1) 0) (fill-more n 0 map h)
 
+-- ---- counting
+
 -- what holds below n and at n holds below suc n
 pub below-suc : {n : ℕ} (P : ℕ → Type 0) → ((i : ℕ) → i < n → P i) → P n → (i : ℕ) → i < suc n → P i
 below-suc {n} P h p i l = at (ℕ-discrete i n)
@@ -110,8 +109,6 @@ below-suc {n} P h p i l = at (ℕ-discrete i n)
     at : Dec (i ≡ n) → P i
     at (yes e) = rw e p
     at (no e) = h i (omega arith)
-
--- ---- counting
 
 pub setBits-le : (map : List ℕ) (n : ℕ) → setBits map n ≤ n
 unfolding setBits
@@ -211,13 +208,6 @@ lowest-exists map total h = lt-of-le-ne (lowest-le map total) (λ e. absurd (ful
   where
     full : lowestMissing map total ≡ total → ⊥
     full e = omega (arith, setBits-all map total (λ i l. lowest-below map total i (omega arith)))
-
-pub lowest-first : (map : List ℕ) (total j : ℕ) → marked map j ≡ false → lowestMissing map total ≤ j
-lowest-first map total j e = first (decLe (lowestMissing map total) j)
-  where
-    first : Dec (lowestMissing map total ≤ j) → lowestMissing map total ≤ j
-    first (yes l) = l
-    first (no l) = absurd (true≢false (sym (lowest-below map total j (omega arith)) ∙ e))
 
 -- no other index is such
 pub lowest-unique : (map : List ℕ) (total x : ℕ) → x ≤ total → ((j : ℕ) → j < x → marked map j ≡ true) → (x < total → marked map x ≡ false)

@@ -79,13 +79,14 @@ fn lowest_clear(byte: u8) -> u32
 }
 
 // The lowest index below total whose bit is not set, or total where all are set. Full bytes are passed
-// over by eights, then one by one; in the byte that is not full, or that total ends in, the bit is found.
+// over by eights, then one by one; of the byte where that stops the lowest clear bit is taken, up to
+// total. A byte past the map's end counts as 0.
 pub fn lowest_missing(map: &[u8], total: usize) -> usize
     ensures { λ r. ⌜ r ≡ lowestMissing (now (map .entry)) total ⌝ }
 {
     let end = basis::least(total / 8, map.len());
-    let near = skip_full(map, 0, end, 8);
-    let at = skip_full(map, near, end, 1);
+    let eights = skip_full(map, 0, end, 8);
+    let at = skip_full(map, eights, end, 1);
     let from = 8 * at;
     let left = total - from;
     let bit = lowest_clear(basis::byte_at(map, at));

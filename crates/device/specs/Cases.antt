@@ -155,7 +155,9 @@ asks =
     (holds 0 0 0, 0x00 ∷ [], 9 ∷ 0 ∷ []) ∷
     (holds 1 1 0, 0x02 ∷ [], 0 ∷ 26 ∷ 21 ∷ (text 2 ++ (0x00 ∷ 0x00 ∷ []))) ∷
     (holds 1 2 0, 0x03 ∷ [], 0 ∷ 26 ∷ 21 ∷ (text 2 ++ (0x00 ∷ 0x02 ∷ []))) ∷
+    (holds 1 2 0, 0xFB ∷ [], 0 ∷ 26 ∷ 21 ∷ (text 2 ++ (0x00 ∷ 0x02 ∷ []))) ∷  -- bits past total are no fragments
     (holds 1 2 0, 0x07 ∷ [], 29 ∷ 0 ∷ []) ∷  -- the map shows none missing
+    (held 1 2 32 40 0 39 0, 0xFF ∷ 0xFE ∷ 0xFF ∷ 0xFF ∷ 0xFF ∷ [], 0 ∷ 26 ∷ 21 ∷ (text 2 ++ (0x00 ∷ 0x08 ∷ []))) ∷
     (held 1 2 32 40 0 33 0, 0xFF ∷ 0xFF ∷ 0xFF ∷ 0xFF ∷ 0x01 ∷ [], 0 ∷ 26 ∷ 21 ∷ (text 2 ++ (0x00 ∷ 0x21 ∷ []))) ∷
     (holds 2 3 7, 0x07 ∷ [], 0 ∷ 9 ∷ 22 ∷ 0x00 ∷ []) ∷
     (holds 3 3 7, 0x07 ∷ [], 9 ∷ 0 ∷ []) ∷

@@ -5,7 +5,7 @@ use native.Mathlib.Numerals.{add-one}
 use native.Mathlib.Decide.{ℕ-discrete}
 use native.Mathlib.Omega.{arith}
 use mathlib.Core.Path.{_≡_, sym, _∙_, ap}
-use mathlib.Core.Bool.{true, false, true≢false}
+use mathlib.Core.Bool.{true, false}
 use mathlib.Core.List.{List, _++_, append-assoc}
 use lib.ListN.{length, take, drop, length-append}
 use lib.Seq.{take-at, take-add, take-all, length-take-le}
@@ -13,7 +13,7 @@ use Rattle.basis.specs.Bytes.{patched}
 use Rattle.basis.proofs.Lists.{length-patched}
 use Rattle.device_record.specs.Record.{mapBytes}
 use Rattle.bitmap.specs.Bitmap.{marked, mark, cleared, lowestMissing}
-use Rattle.bitmap.proofs.Bitmaps.{mark-same, mark-other, length-mark, cleared-none, length-cleared, lowest-missing, lowest-first}
+use Rattle.bitmap.proofs.Bitmaps.{mark-same, mark-other, length-mark, cleared-none, length-cleared, lowest-unique}
 use Rattle.device_record.proofs.Maps.{mapBytes-cover, byte-within}
 use Rattle.device.proofs.Images.{place-within}
 use Rattle.gateway_record.specs.Record.{totalOf, fragmentOf}
@@ -46,13 +46,7 @@ module _ (content : List ℕ) (size : ℕ) (some : 1 ≤ size) where
 
   module _ (k : ℕ) (image map : List ℕ) (front : Front k image map) (more : k < total) where
     pub lowest : lowestMissing map total ≡ k
-    lowest = at (ℕ-discrete (lowestMissing map total) k)
-      where
-        at : Dec (lowestMissing map total ≡ k) → lowestMissing map total ≡ k
-        at (yes e) = e
-        at (no e) =
-            let first : lowestMissing map total < k = omega (arith, lowest-first map total k (front .above k (omega arith) more)) in
-            absurd (true≢false (sym (front .below (lowestMissing map total) first) ∙ lowest-missing map total (omega arith)))
+    lowest = sym (lowest-unique map total k (omega arith) (front .below) (λ _. front .above k (omega arith) more))
 
     pub new : marked map k ≡ false
     new = front .above k (omega arith) more

@@ -1,5 +1,4 @@
--- `bitmap::full` meets its contract: the invariant: the bytes passed are all full, and so are those that are left, just where all of them
--- are. Assumes nothing.
+-- `bitmap::full` meets its contract. The invariant: all bytes are full just where those passed and those left are. Assumes nothing.
 use borrow.Author.Needs.{needs}
 use Prim.Native.Nat.{_≤_, _-_}
 use native.Mathlib.Omega.{arith}
