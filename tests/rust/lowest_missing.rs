@@ -97,7 +97,7 @@ fn clear_one(map: &mut [u8], clear: usize, all_behind: bool) {
     }
 }
 
-/// The devices that are asked, and how many of their maps were compared.
+/// A device that is asked, and how many of its maps were compared.
 struct Comparison {
     download: Download,
     total: u16,
