@@ -75,8 +75,8 @@
        8  data       most answers: one byte, 00 for yes
 
    A package has 1 to 65,535 fragments of 32 to 500 bytes each, the last one of
-   at least 1: up to 32,767,500 bytes.  A version is a text of 1 to 16 bytes
-   from 20 to 7E hex.
+   at least 1: up to 32,767,500 bytes.  A version is a text of 1 to 16
+   letters, digits, underscores, hyphens and dots.
 
 
    What a host does
@@ -894,9 +894,10 @@ static inline uint8_t pcp_recognise_message(int supported, int pcp,
 }
 
 /* Makes the record of a device that runs this version: Idle, with nothing
-   downloaded.  The version is a text of 1 to 16 bytes from 20 to 7E hex.  Bytes
-   00 behind it are filling, as far as there are at most 16 bytes in all: an
-   array of 32 with a text and zeros, passed whole, is refused with 17.
+   downloaded.  The version is a text of 1 to 16 bytes: letters, digits, _, -
+   and dots.  Bytes 00 behind it are filling, as far as there are at most 16
+   bytes in all: an array of 32 with a text and zeros, passed whole, is refused
+   with 17.
    Numbers: 64, 17. */
 static inline uint8_t pcp_device_new(uint8_t *record, size_t record_length,
                                      const void *version,

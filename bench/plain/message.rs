@@ -147,10 +147,15 @@ fn version_in(data: &[u8]) -> Result<Version, u8> {
     Ok(version)
 }
 
+/// Letters, digits, underscore, hyphen and dot.
+fn is_version_character(byte: &u8) -> bool {
+    matches!(byte, b'A'..=b'Z' | b'a'..=b'z' | b'0'..=b'9' | b'_' | b'-' | b'.')
+}
+
 pub fn is_version(version: &Version) -> bool {
     let length = version.iter().position(|&byte| byte == 0).unwrap_or(version.len());
     let (text, rest) = version.split_at(length);
-    length > 0 && text.iter().all(|byte| (0x20..=0x7E).contains(byte)) && rest.iter().all(|&byte| byte == 0)
+    length > 0 && text.iter().all(is_version_character) && rest.iter().all(|&byte| byte == 0)
 }
 
 pub fn is_size(size: u16) -> bool {

@@ -484,7 +484,7 @@ impl Refusal {
     }
 }
 
-/// A version text: 1 to 16 bytes from `20` to `7E`.
+/// A version text: 1 to 16 letters, digits, underscores, hyphens and dots.
 #[derive(Clone, Copy, PartialEq, Eq)]
 pub struct Version([u8; VERSION_LENGTH]);
 
@@ -582,8 +582,8 @@ pub struct DeviceAnswer<'r> {
 }
 
 impl Device {
-    /// A device that runs this version and holds no download: a text of 1 to 16 bytes, from `20` to `7E`. Bytes `00`
-    /// behind it are filling, as far as there are at most 16 in all.
+    /// A device that runs this version and holds no download: a text of 1 to 16 letters, digits, underscores,
+    /// hyphens and dots. Bytes `00` behind it are filling, as far as there are at most 16 in all.
     ///
     /// Refusals: BadVersionText.
     pub fn new(version: &[u8]) -> Result<Device, Refusal> {

@@ -598,6 +598,60 @@ static void try_wide_sizes(void)
     expect("size", 0, started("V1.0", 500, 500), record, sizeof record);
 }
 
+/* Every byte at every place of a version text, made, started, announced and
+   held.  A 00 ends the text, and must have none behind it. */
+
+static int in_version(int byte)
+{
+    static const char in[] = "ABCDEFGHIJKLMNOPQRSTUVWXYZ"
+                             "abcdefghijklmnopqrstuvwxyz0123456789_-.";
+
+    return byte != 0 && byte < 128 && strchr(in, byte) != NULL;
+}
+
+static void try_text(const char *text, int good)
+{
+    uint8_t made[PCP_DEVICE_RECORD] = {0}, reply[PCP_DEVICE_REPLY];
+    size_t length = make(PCP_ANNOUNCE, 22);
+
+    expect("text made", good ? 0 : PCP_BAD_VERSION_TEXT,
+           pcp_device_new(made, sizeof made, text, PCP_VERSION_LENGTH),
+           (const uint8_t *)text, PCP_VERSION_LENGTH);
+    expect("text started", good ? 0 : PCP_BAD_VERSION_TEXT,
+           pcp_gateway_start(made, sizeof made, text, PCP_VERSION_LENGTH, 32,
+                             image, 32, 1),
+           (const uint8_t *)text, PCP_VERSION_LENGTH);
+    pcp_device_new(made, sizeof made, "V0.9", 4);
+    memcpy(message + 8, text, PCP_VERSION_LENGTH);
+    memcpy(message + 24, "\0\x20\0\1\0\0", 6);
+    seal(length);
+    expect("text announced", good ? 0 : PCP_BAD_DATA,
+           pcp_device_receive(made, sizeof made, 1, 1, PCP_READY, message,
+                              length, image, sizeof image, map, sizeof map,
+                              reply, sizeof reply)
+               .number,
+           message, length);
+    pcp_device_new(made, sizeof made, "V0.9", 4);
+    memcpy(made + 1, text, PCP_VERSION_LENGTH);
+    expect("text held", good ? PCP_NO_USE : PCP_BAD_RECORD,
+           pcp_device_install_finished(made, sizeof made, PCP_INSTALLED), made,
+           sizeof made);
+    compared++;
+}
+
+static void try_texts(void)
+{
+    for (int place = 0; place < PCP_VERSION_LENGTH; place++)
+        for (int byte = 0; byte < 256; byte++) {
+            char text[PCP_VERSION_LENGTH];
+
+            memset(text, 'V', sizeof text);
+            text[place] = (char)byte;
+            try_text(text, in_version(byte) ||
+                               (byte == 0 && place == PCP_VERSION_LENGTH - 1));
+        }
+}
+
 /* What answers say of record, image and map.  Each call is made once more on an
    image in which every byte is another: a byte that is then the same in both
    was written. */
@@ -820,6 +874,7 @@ int main(void)
     try_long();
     try_wide_at_device();
     try_wide_sizes();
+    try_texts();
     try_answers();
     try_looks();
 

@@ -9,6 +9,7 @@ mod support;
 use calls::comparison::{watch, Comparison};
 use calls::coverage::Coverage;
 use calls::run::{Run, Scale};
+use calls::texts;
 use std::{env, process};
 use support::random::Random;
 
@@ -27,6 +28,15 @@ fn scale_of(run: u64) -> Scale {
         rest if rest % 50 == 0 => Scale::Large,
         _ => Scale::Small,
     }
+}
+
+/// Every version text at the edges of the rule.
+fn compare_texts(comparison: &mut Comparison, coverage: &mut Coverage) -> Result<(), String> {
+    for mut text in texts::all() {
+        let result = comparison.make(text.call, text.lent, &mut text.memory)?;
+        coverage.observe_text(&text, (result % 256) as u8);
+    }
+    Ok(())
 }
 
 /// Runs until so many calls are made, or one differs.
@@ -62,7 +72,9 @@ pub fn main() {
     let mut comparison = Comparison::new(seed);
     let mut coverage = Coverage::default();
     watch(&mut comparison);
-    if let Err(difference) = compare(&mut comparison, &mut coverage, calls) {
+    let compared = compare_texts(&mut comparison, &mut coverage)
+        .and_then(|()| compare(&mut comparison, &mut coverage, calls));
+    if let Err(difference) = compared {
         print!("{difference}");
         println!("differential: different at call {}", comparison.calls);
         process::exit(DIFFERENT);

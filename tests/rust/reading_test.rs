@@ -172,12 +172,17 @@ fn bad_data(tally: &mut Tally) {
     gap[5] = b'1';
     for (text, good) in [
         ([0; 16], false),
-        ([b' '; 16], true),
-        ([b'~'; 16], true),
-        ([0x7F; 16], false),
-        ([0x1F; 16], false),
-        (gap, false),
         (version("V"), true),
+        (version("0123456789"), true),
+        (version("AZ_az-09.V"), true),
+        (version("V1.0 beta"), false),
+        (version(" V1.0"), false),
+        (version("V1.0 "), false),
+        (version("V1.0~"), false),
+        ([b'z'; 16], true),
+        ([b' '; 16], false),
+        ([0x7F; 16], false),
+        (gap, false),
     ] {
         tally.same("version text", Device::make(text).0, if good { 0 } else { 17 });
     }

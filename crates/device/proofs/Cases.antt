@@ -5,7 +5,7 @@ use Rattle.basis.specs.Bytes.{part, same, over, patched}
 use Rattle.bitmap.specs.Bitmap.{marked, mark, cleared, missingFrom, lowestMissing}
 use Rattle.checksum.specs.Check.{doubled, entryOf, step, register, checkOf, zeroed, messageCheck}
 use Rattle.message.specs.Limits.{sizeOk, totalOk, isWord}
-use Rattle.message.specs.Version.{printable, front, allZero, goodVersion}
+use Rattle.message.specs.Version.{versionCharacter, front, allZero, goodVersion}
 use Rattle.message.specs.Recognition.{startHolds, versionByteHolds, codeHolds, checkHolds, lengthHolds, recognition}
 use Rattle.message.specs.Messages.{deviceFields, fragmentOk, installCode, deviceRow, gatewayRow}
 use Rattle.codec.specs.Codec.{sealed, frame, bytesOf, readOf, said}
@@ -17,7 +17,7 @@ use Rattle.device.specs.Cases.{DeviceCases}
 
 pub device-cases : DeviceCases
 unfolding pick refusal oneOf part same over patched marked mark cleared missingFrom lowestMissing
-    doubled entryOf step register checkOf zeroed messageCheck sizeOk totalOk isWord printable front allZero goodVersion
+    doubled entryOf step register checkOf zeroed messageCheck sizeOk totalOk isWord versionCharacter front allZero goodVersion
     startHolds versionByteHolds codeHolds checkHolds lengthHolds recognition
     deviceRow deviceFields fragmentOk gatewayRow installCode sealed frame bytesOf readOf said
     holding conditionOk downloadOk recordOk mapBytes memoryOk

@@ -5,7 +5,7 @@ use mathlib.Core.Bool.{false}
 use lib.ListN.{replicate}
 use Rattle.basis.specs.Choice.{pick, oneOf}
 use Rattle.basis.proofs.Choosing.{by-cases, by-refusal, fails}
-use Rattle.message.specs.Version.{printable, front, allZero, goodVersion}
+use Rattle.message.specs.Version.{versionCharacter, front, allZero, goodVersion}
 use Rattle.message.specs.Messages.{GatewayMessage, installCode, Reading, toGateway}
 use Rattle.codec.specs.Codec.{Sent, unsent, said}
 use Rattle.device_record.specs.declared.Device.{Device}
@@ -30,7 +30,7 @@ module _ (d : Device) (broken : recordOk d ≡ false) where
       }
 
 broken-made : recordOk (fresh (replicate 16 0)) ≡ false
-unfolding recordOk installCode goodVersion front printable allZero oneOf pick
+unfolding recordOk installCode goodVersion front versionCharacter allZero oneOf pick
 broken-made = refl
 
 pub refused-making : RefusedMaking

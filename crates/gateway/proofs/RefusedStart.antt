@@ -5,7 +5,7 @@ use mathlib.Core.Bool.{false}
 use lib.ListN.{replicate}
 use Rattle.basis.specs.Choice.{pick}
 use Rattle.basis.proofs.Choosing.{by-cases, by-refusal}
-use Rattle.message.specs.Version.{printable, front, allZero, goodVersion}
+use Rattle.message.specs.Version.{versionCharacter, front, allZero, goodVersion}
 use Rattle.message.specs.Messages.{DeviceMessage, Reading, toDevice}
 use Rattle.codec.specs.Codec.{Sent, unsent, said}
 use Rattle.gateway_record.specs.declared.Gateway.{Gateway}
@@ -30,7 +30,7 @@ module _ (g : Gateway) (broken : recordOk g ≡ false) where
       }
 
 broken-start : recordOk (started (replicate 16 0) 0 0 0) ≡ false
-unfolding recordOk goodVersion front printable allZero pick
+unfolding recordOk goodVersion front versionCharacter allZero pick
 broken-start = refl
 
 pub refused-start : RefusedStart

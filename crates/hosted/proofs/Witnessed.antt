@@ -6,7 +6,7 @@ use Rattle.basis.specs.Choice.{pick, refusal, oneOf}
 use Rattle.basis.specs.Bytes.{part, same, over, patched}
 use Rattle.checksum.specs.Check.{doubled, entryOf, step, register, checkOf, zeroed, messageCheck}
 use Rattle.message.specs.Limits.{sizeOk, totalOk, isWord}
-use Rattle.message.specs.Version.{printable, front, allZero, goodVersion}
+use Rattle.message.specs.Version.{versionCharacter, front, allZero, goodVersion}
 use Rattle.message.specs.Recognition.{startHolds, versionByteHolds, codeHolds, checkHolds, lengthHolds, recognition}
 use Rattle.message.specs.Messages.{fragmentOk, deviceFields, installCode, gatewayFields, deviceRow, gatewayRow}
 use Rattle.codec.specs.Codec.{sealed, frame, bytesOf, readOf, writeOf, said}
@@ -25,7 +25,7 @@ use Rattle.hosted.specs.Hosts.{deviceHostDoes, gatewayHostDoes}
 use Rattle.hosted.specs.Witnesses.{HostedWitnesses}
 
 pub hosted-witnesses : HostedWitnesses
-unfolding pick refusal oneOf part same over patched doubled entryOf step register checkOf zeroed messageCheck sizeOk totalOk isWord printable front allZero
+unfolding pick refusal oneOf part same over patched doubled entryOf step register checkOf zeroed messageCheck sizeOk totalOk isWord versionCharacter front allZero
     goodVersion startHolds versionByteHolds codeHolds checkHolds lengthHolds recognition deviceRow fragmentOk deviceFields gatewayRow installCode
     gatewayFields sealed frame bytesOf readOf writeOf said marked mark cleared missingFrom lowestMissing device-record.holding device-record.conditionOk
     device-record.newOf device-record.downloadOk device-record.recordOk device-record.mapBytes device-record.memoryOk device.begin device.store

@@ -12,22 +12,22 @@ use borrow.Author.Tests.{eq-eqb, ne-eqb}
 use Rattle.basis.specs.Bytes.{part}
 use Rattle.basis.proofs.Lists.{part-more}
 use Rattle.basis.proofs.Choosing.{pick-yes, pick-no}
-use Rattle.message.specs.Version.{printable, front, allZero, goodVersion}
+use Rattle.message.specs.Version.{versionCharacter, front, allZero, goodVersion}
 
 module _ (v : List ℕ) (i : ℕ) where
   -- ---- the front: what was passed, and the front of what is left
 
-  pub front-more : i < length v → printable (getD v i 0) ≡ true → i + front (drop i v) ≡ front v → i + 1 + front (drop (i + 1) v) ≡ front v
+  pub front-more : i < length v → versionCharacter (getD v i 0) ≡ true → i + front (drop i v) ≡ front v → i + 1 + front (drop (i + 1) v) ≡ front v
   unfolding front
   front-more h e inv =
       let step : front (drop i v) ≡ suc (front (drop (i + 1) v)) =
-      rw (drop-cons v i 0, add-one) (pick-yes (printable (getD v i 0)) (suc (front (drop (suc i) v))) 0 e) in
+      rw (drop-cons v i 0, add-one) (pick-yes (versionCharacter (getD v i 0)) (suc (front (drop (suc i) v))) 0 e) in
       omega arith
 
-  pub front-stops : i < length v → printable (getD v i 0) ≡ false → i + front (drop i v) ≡ front v → i ≡ front v
+  pub front-stops : i < length v → versionCharacter (getD v i 0) ≡ false → i + front (drop i v) ≡ front v → i ≡ front v
   unfolding front
   front-stops h e inv =
-      let none : front (drop i v) ≡ 0 = rw (drop-cons v i 0) (pick-no (printable (getD v i 0)) (suc (front (drop (suc i) v))) 0 e) in
+      let none : front (drop i v) ≡ 0 = rw (drop-cons v i 0) (pick-no (versionCharacter (getD v i 0)) (suc (front (drop (suc i) v))) 0 e) in
       omega arith
 
   pub front-ended : length v ≤ i → i + front (drop i v) ≡ front v → i ≡ front v

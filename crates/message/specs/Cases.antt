@@ -1,12 +1,12 @@
 -- 01, "Recognising a message", in computed cases: ranges, version text, the results that the table allows, the data of the twelve messages,
--- and the numbers 1 to 7 in their order. What a row says is written from 01 as 02 (2026-01) amends it. Assumes nothing.
-use Prim.Native.Nat.{ℕ, _+_}
+-- and the numbers 1 to 7 in their order. What a row says is written from 01 as 02 (2026-01, 2026-04) amends it. Assumes nothing.
+use Prim.Native.Nat.{ℕ, zero, suc, _+_}
 use mathlib.Core.Bool.{Bool, true, false}
 use mathlib.Core.List.{List, [], _∷_, _++_}
 use lib.ListN.{replicate}
 use Rattle.basis.specs.Cases.{Agree, allowed}
 use Rattle.message.specs.Limits.{sizeOk, totalOk, isWord}
-use Rattle.message.specs.Version.{goodVersion}
+use Rattle.message.specs.Version.{versionCharacter, goodVersion}
 use Rattle.message.specs.Messages.{DeviceMessage, query, announce, fragment, downloadReply, execute, resultReply, GatewayMessage, queryReply}
 use Rattle.message.specs.Messages.{announceReply, fragmentRequest, downloadReport, executeReply, resultReport, installCode, toDevice, toGateway}
 use Rattle.message.specs.Recognition.{versionByteHolds, codeHolds, recognition}
@@ -15,9 +15,9 @@ use Rattle.message.specs.Recognition.{versionByteHolds, codeHolds, recog
 abbrev pub text : ℕ → List ℕ
 text n = 0x56 ∷ (0x30 + n) ∷ replicate 14 0x00
 
--- 16 bytes that are no text: the first may not stand in one
+-- 16 bytes that are no text: "V 1" has a space
 abbrev pub noText : List ℕ
-noText = 0x1F ∷ replicate 15 0x00
+noText = 0x56 ∷ 0x20 ∷ 0x31 ∷ replicate 13 0x00
 
 -- a byte, so many times, and then 00 so many times
 abbrev padded : ℕ → ℕ → ℕ → List ℕ
@@ -34,18 +34,26 @@ ranges =
 -- version text
 abbrev pub texts : List (List ℕ × Bool)
 texts =
-    (padded 0x20 1 15, true) ∷
-    (padded 0x7E 16 0, true) ∷
+    (padded 0x2E 1 15, true) ∷
+    (padded 0x7A 16 0, true) ∷
     (padded 0x00 0 16, false) ∷  -- no byte of text
-    (padded 0x1F 1 15, false) ∷
-    (padded 0x7F 1 15, false) ∷
+    -- a space first, inside, last; and one that fills up
+    (padded 0x20 1 15, false) ∷
+    (padded 0x41 1 0 ++ (padded 0x20 1 0 ++ padded 0x41 1 13), false) ∷
+    (padded 0x41 15 0 ++ padded 0x20 1 0, false) ∷
+    (padded 0x41 1 14 ++ padded 0x20 1 0, false) ∷
     (padded 0x41 1 1 ++ padded 0x41 1 13, false) ∷  -- text behind 00
     (padded 0x41 1 14 ++ padded 0x01 1 0, false) ∷  -- another byte behind 00
     (padded 0x41 1 14, false) ∷  -- 15 bytes
     (padded 0x41 1 16, false) ∷  -- 17 bytes
     []
 
--- of all bytes, the results that a message may carry; then its codes, and its version bytes
+-- n numbers, from one on
+abbrev from : (b n : ℕ) → List ℕ
+from b zero = []
+from b (suc n) = b ∷ from (suc b) n
+
+-- of all bytes, the results that a message may carry; then its codes, what its version text may hold, and its version bytes
 abbrev pub results : List ((ℕ → Bool) × List ℕ)
 results =
     ((λ (r : ℕ). toDevice .valid (fragment r 0 [])), 0x80 ∷ 0x81 ∷ []) ∷
@@ -59,6 +67,8 @@ results =
     ((λ (r : ℕ). toGateway .valid (resultReport r (text 1))), 0x00 ∷ 0x01 ∷ 0x04 ∷ 0x05 ∷ 0x09 ∷ 0x0A ∷ 0x7F ∷ []) ∷
     (installCode, 0x00 ∷ 0x01 ∷ 0x04 ∷ 0x05 ∷ 0x09 ∷ 0x0A ∷ 0x7F ∷ []) ∷
     ((λ (c : ℕ). codeHolds (0xFF ∷ 0xFE ∷ 0x01 ∷ c ∷ [])), 19 ∷ 20 ∷ 21 ∷ 22 ∷ 23 ∷ 24 ∷ []) ∷
+    -- hyphen and dot, digits, capital letters, underscore, small letters
+    (versionCharacter, from 0x2D 2 ++ (from 0x30 10 ++ (from 0x41 26 ++ (from 0x5F 1 ++ from 0x61 26)))) ∷
     -- any reserved bits
     (
       (λ (v : ℕ). versionByteHolds (0xFF ∷ 0xFE ∷ v ∷ [])),

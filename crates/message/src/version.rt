@@ -1,14 +1,26 @@
-// Version text: 1 to 16 bytes of hex 20 to 7E, then only 00.
+// Version text: 1 to 16 letters, digits, underscores, hyphens and dots, then only 00.
 ghost use mathlib.Core.Path.{_≡_};
 ghost use lib.ListN.{drop};
 ghost use Rattle.basis.specs.Bytes.{part, same};
-ghost use Rattle.message.specs.Version.{printable, front, allZero, goodVersion};
+ghost use Rattle.message.specs.Version.{letter, digit, versionCharacter, front, allZero, goodVersion};
 
-// A byte that version text may hold.
-fn printable(b: u8) -> bool
-    ensures { λ r. ⌜ r ≡ printable b ⌝ }
+fn letter(b: u8) -> bool
+    ensures { λ r. ⌜ r ≡ letter b ⌝ }
 {
-    (0x20 <= b) & (b <= 0x7E)
+    ((0x41 <= b) & (b <= 0x5A)) | ((0x61 <= b) & (b <= 0x7A))
+}
+
+fn digit(b: u8) -> bool
+    ensures { λ r. ⌜ r ≡ digit b ⌝ }
+{
+    (0x30 <= b) & (b <= 0x39)
+}
+
+// A byte that version text may hold: a letter, a digit, an underscore, a hyphen or a dot.
+fn version_character(b: u8) -> bool
+    ensures { λ r. ⌜ r ≡ versionCharacter b ⌝ }
+{
+    letter(b) | (digit(b) | ((b == 0x5F) | ((b == 0x2D) | (b == 0x2E))))
 }
 
 // How many such bytes the text starts with.
@@ -17,7 +29,7 @@ fn front(version: [u8; 16]) -> usize
 {
     let mut i = 0;
     while i < 16 {
-        if !printable(version[i]) {
+        if !version_character(version[i]) {
             return i;
         }
         i += 1;

@@ -212,6 +212,9 @@ fn values_and_bytes_are_each_others() {
 #[test]
 fn refusals_have_reasons() {
     assert_eq!(Device::new(b"").unwrap_err().to_string(), "bad version text");
+    assert_eq!(Device::new(b"V1.0 beta"), Err(Refusal::BadVersionText));
+    assert_eq!(Gateway::start(b"V1.0 beta", 32, PACKAGE, true), Err(Refusal::BadVersionText));
+    assert_eq!(Device::new(b"V1.0-beta_2").unwrap().running().as_str(), "V1.0-beta_2");
     assert_eq!(Gateway::start(b"V1.0", 31, PACKAGE, true), Err(Refusal::BadSize));
     assert_eq!(Gateway::start(b"V1.0", 32, b"", true), Err(Refusal::BadPackage));
     assert!(Refusal::BadSize.is_hosts_fault() && !Refusal::AlreadyStored.is_hosts_fault());

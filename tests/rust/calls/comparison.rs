@@ -46,16 +46,22 @@ impl Comparison {
 
     /// Makes the run's next call on all sides, and shows it to the observer. A difference is described.
     pub fn step(&mut self, run: &mut Run, observe: impl FnOnce(Made)) -> Result<(), String> {
-        self.calls += 1;
         let (call, lent) = run.next_call();
-        (self.call, self.lent) = (call, lent);
-        self.before.copy_from(&run.memory);
-        let result = call.make(&Reading, &lent, &mut run.memory);
-        self.compare("library", &Library, result, &run.memory)?;
-        self.compare("wrapper", &Wrapper, result, &run.memory)?;
+        let result = self.make(call, lent, &mut run.memory)?;
         observe(Made { call, result, before: &self.before, after: &run.memory });
         run.called(call, result);
         Ok(())
+    }
+
+    /// Makes a call on all sides, and gives back its result; the memory is as the reading left it.
+    pub fn make(&mut self, call: Call, lent: Lent, memory: &mut Memory) -> Result<u32, String> {
+        self.calls += 1;
+        (self.call, self.lent) = (call, lent);
+        self.before.copy_from(memory);
+        let result = call.make(&Reading, &lent, memory);
+        self.compare("library", &Library, result, memory)?;
+        self.compare("wrapper", &Wrapper, result, memory)?;
+        Ok(result)
     }
 
     /// Makes the call at work on this side too.

@@ -2,6 +2,7 @@
 
 use super::comparison::Made;
 use super::run::Ends;
+use super::texts::{Carrier, Text, INSIDE, OUTSIDE};
 use super::Call;
 use crate::reading::check::message_check;
 use crate::reading::device::{Device, ACKED, FAILED, IDLE, INSTALLING, LOADED, LOADING, REPORTING};
@@ -65,6 +66,13 @@ pub struct Coverage {
 impl Coverage {
     fn count(&mut self, event: Event) {
         *self.counts.entry(event).or_default() += 1;
+    }
+
+    /// Counted where the number tells what the text's odd byte is.
+    pub fn observe_text(&mut self, text: &Text, number: u8) {
+        if text.is_told(number) {
+            self.count((text.carrier.name(), text.byte, text.place));
+        }
     }
 
     /// Steps are counted only in runs in which nobody else writes into the records.
@@ -195,6 +203,7 @@ fn wanted() -> BTreeSet<Event> {
     let mut events = BTreeSet::from([(CHECK, 0, 0), (MESSAGE_CHECK, 0, 0), (FULL_MAP, 0, 0)]);
     events.extend(wanted_numbers());
     events.extend(wanted_version_bytes());
+    events.extend(wanted_texts());
     events.extend(wanted_messages());
     events.extend(wanted_steps());
     events.extend(wanted_sendings());
@@ -235,6 +244,15 @@ fn wanted_version_bytes() -> Vec<Event> {
         events.extend(with_each(VERSION_REFUSED, version, &[0, 1]));
     }
     events
+}
+
+/// Each byte at the edges of version text, at each place, wherever one is read.
+fn wanted_texts() -> Vec<Event> {
+    let places: Vec<u8> = (0..16).collect();
+    let of = |carrier: Carrier, bytes: &[u8]| -> Vec<Event> {
+        bytes.iter().flat_map(|byte| with_each(carrier.name(), *byte, &places)).collect()
+    };
+    Carrier::ALL.into_iter().flat_map(|carrier| [of(carrier, &OUTSIDE), of(carrier, &INSIDE)].concat()).collect()
 }
 
 /// Each message in each phase: handled, or without use.

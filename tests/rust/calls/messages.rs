@@ -14,7 +14,10 @@ use crate::support::random::Random;
 use crate::support::version;
 
 /// Few, so that both ends often have the same one.
-const TEXTS: [&str; 4] = ["V0.9", "V1.0", "V1.1", "sixteen bytes ok"];
+const TEXTS: [&str; 4] = ["V0.9", "V1.0", "V1.1", "sixteen_bytes-OK"];
+
+/// What a byte of a text is changed to: such as the text may hold, and such as it may not.
+pub const TEXT_BYTES: [u8; 8] = [0x00, 0x20, 0x2E, 0x3A, 0x41, 0x60, 0x7A, 0xFF];
 
 pub fn some_version(random: &mut Random) -> Version {
     version(random.pick(&TEXTS))
@@ -117,7 +120,7 @@ fn changed_offer(random: &mut Random, ends: &Ends) -> Announcement {
     match random.below(16) {
         0 => offer.version = some_version(random),
         1 => offer.version = ends.device.running,
-        2 => offer.version[random.below(16)] = random.pick(&[0x00, 0x1F, 0x20, 0x7E, 0x7F, 0xFF]),
+        2 => offer.version[random.below(16)] = random.pick(&TEXT_BYTES),
         3 => offer.size = near(random, offer.size),
         4 => offer.size = random.pick(&[0, 31, 32, 33, 499, 500, 501, 0xFFFF]),
         5 => offer.total = near(random, offer.total),

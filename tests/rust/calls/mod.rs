@@ -8,6 +8,7 @@ pub mod coverage;
 pub mod library;
 pub mod messages;
 pub mod run;
+pub mod texts;
 pub mod wrapper;
 
 use crate::reading::boundary::Boundary;

@@ -2,7 +2,7 @@
 //! What is drawn decides everything, so that a seed, or given bytes, repeat a run.
 
 use super::messages::{
-    any_to_device, any_to_gateway, filler, near, next_to_device, next_to_gateway, some_version,
+    any_to_device, any_to_gateway, filler, near, next_to_device, next_to_gateway, some_version, TEXT_BYTES,
 };
 use super::{Call, Lent, Memory};
 use crate::reading::device::{Device, CONDITIONS, INSTALLING, LOADING, READY, REPORTING};
@@ -249,7 +249,7 @@ impl Run {
             text.retain(|byte| *byte != 0);
         }
         match random.below(16) {
-            0 => text[random.below(4)] = random.pick(&[0x00, 0x1F, 0x20, 0x7E, 0x7F, 0xFF]),
+            0 => text[random.below(4)] = random.pick(&TEXT_BYTES),
             1 => text.clear(),
             2 => text.resize(random.between(15..=18), random.pick(&[0x00, 0x41])),
             _ => {}
@@ -438,6 +438,6 @@ fn change_field(random: &mut Random, widths: &[usize], record: &mut [u8]) {
                 [0, 1, value ^ 1, value.wrapping_add(1 << 32), longest, longest + 1, 500 * 65_535, u64::MAX];
             field.copy_from_slice(&random.pick(&edges).to_be_bytes());
         }
-        _ => field[random.below(16)] = random.pick(&[0x00, 0x1F, 0x20, 0x41, 0x7E, 0x7F, 0x80, 0xFF]),
+        _ => field[random.below(16)] = random.pick(&TEXT_BYTES),
     }
 }

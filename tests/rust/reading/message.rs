@@ -30,9 +30,14 @@ pub const GATEWAY_ANSWERS: [u8; 2] = [0x00, 0x80];
 /// A version as it stands in messages: its text, filled up with 00.
 pub type Version = [u8; 16];
 
-/// Printable text of at least one byte, and nothing but 00 behind it.
+/// What the console takes in a version (02, 2026-04): letters, digits, underscore, hyphen and dot.
+fn is_version_character(byte: &u8) -> bool {
+    byte.is_ascii_alphanumeric() || b"_-.".contains(byte)
+}
+
+/// Text of at least one such byte, and nothing but 00 behind it.
 pub fn is_version(version: &Version) -> bool {
-    let text = version.iter().take_while(|byte| (0x20..=0x7E).contains(*byte)).count();
+    let text = version.iter().take_while(|byte| is_version_character(byte)).count();
     text >= 1 && version[text..].iter().all(|byte| *byte == 0)
 }
 

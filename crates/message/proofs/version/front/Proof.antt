@@ -21,15 +21,15 @@ abbrev μ-loop : tie.MeasureT-loop
 loop-holds : tie.Need-loop-holds Inv-loop μ-loop
 loop-holds c = (omega arith, zero-add (front (c .args .t1)))
 
-array-read-printable : tie.Need-array-read-printable Inv-loop μ-loop
-array-read-printable c = search needs
+array-read-version-character : tie.Need-array-read-version-character Inv-loop μ-loop
+array-read-version-character c = search needs
 
-printable-requires : tie.Need-printable-requires Inv-loop μ-loop
-printable-requires c κs = search needs
+version-character-requires : tie.Need-version-character-requires Inv-loop μ-loop
+version-character-requires c κs = search needs
 
 returns : tie.Need-returns Inv-loop μ-loop
 returns c = front-stops (c .before .before .before .before .args .t1) (c .before .before .before .loop .i) (search needs)
-    (sym (c .before .printable .ensures) ∙ not-true _ (c .if1 .taken)) (c .before .before .before .loop .inv .1)
+    (sym (c .before .version-character .ensures) ∙ not-true _ (c .if1 .taken)) (c .before .before .before .loop .inv .1)
 
 add-i : tie.Need-add-i Inv-loop μ-loop
 add-i c = omega arith
@@ -41,7 +41,7 @@ loop-again : tie.Need-loop-again Inv-loop μ-loop
 loop-again c = (
   omega arith,
   front-more (c .before .before .before .before .args .t1) (c .before .before .before .loop .i) (search needs)
-      (sym (c .before .printable .ensures) ∙ not-false _ (c .if1 .left)) (c .before .before .before .loop .inv .1),
+      (sym (c .before .version-character .ensures) ∙ not-false _ (c .if1 .left)) (c .before .before .before .loop .inv .1),
 )
 
 returns-2 : tie.Need-returns-2 Inv-loop μ-loop
@@ -56,8 +56,8 @@ front-spec =
     Inv-loop
     μ-loop
     loop-holds
-    array-read-printable
-    printable-requires
+    array-read-version-character
+    version-character-requires
     returns
     add-i
     loop-less
