@@ -252,7 +252,10 @@ fn wanted_texts() -> Vec<Event> {
     let of = |carrier: Carrier, bytes: &[u8]| -> Vec<Event> {
         bytes.iter().flat_map(|byte| with_each(carrier.name(), *byte, &places)).collect()
     };
-    Carrier::ALL.into_iter().flat_map(|carrier| [of(carrier, &OUTSIDE), of(carrier, &INSIDE)].concat()).collect()
+    Carrier::ALL
+        .into_iter()
+        .flat_map(|carrier| [of(carrier, &OUTSIDE), of(carrier, &INSIDE)].concat())
+        .collect()
 }
 
 /// Each message in each phase: handled, or without use.

@@ -82,8 +82,13 @@ impl Carrier {
             last: 1,
             ..Device::default()
         };
-        let mut gateway =
-            Gateway { phase: SERVE, version: version("V1.0"), size: SIZE, length: PACKAGE, ..Gateway::default() };
+        let mut gateway = Gateway {
+            phase: SERVE,
+            version: version("V1.0"),
+            size: SIZE,
+            length: PACKAGE,
+            ..Gateway::default()
+        };
         let to_device = Call::DeviceReceive { facts: FACTS, condition: READY };
         let to_gateway = Call::GatewayReceive { facts: FACTS };
         let (call, input) = match self {
