@@ -36,8 +36,8 @@ heard : {m : List ℕ} {air : List (List ℕ)} → List·Memᴰ m (m ∷ air)
 heard = List·Memᴰ·head refl
 
 pub witnesses : Witnesses
-unfolding pick refusal oneOf part same over patched doubled entryOf step register checkOf zeroed messageCheck sizeOk totalOk isWord versionCharacter front allZero
-    goodVersion startHolds versionByteHolds codeHolds checkHolds lengthHolds recognition deviceRow fragmentOk deviceFields gatewayRow installCode
+unfolding pick refusal oneOf part same over patched doubled entryOf step register checkOf zeroed messageCheck sizeOk totalOk isWord versionCharacter front
+    allZero goodVersion startHolds versionByteHolds codeHolds checkHolds lengthHolds recognition deviceRow fragmentOk deviceFields gatewayRow installCode
     gatewayFields sealed frame bytesOf readOf writeOf said marked mark cleared missingFrom lowestMissing device-record.holding device-record.conditionOk
     device-record.newOf device-record.downloadOk device-record.recordOk device-record.mapBytes device-record.memoryOk device.begin device.store
     device.onQuery device.onAnnounce device.onFragment device.onDownloadReply device.onExecute device.onResultReply device.handle device.receiveOf
