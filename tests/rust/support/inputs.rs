@@ -256,7 +256,7 @@ fn valid_messages() -> Vec<Vec<u8>> {
         (target(), 32, 3, 0),
         (target(), 32, 4, code),
         (target(), 33, 3, code),
-        (version("V1.0 "), 32, 3, code),
+        (version("V1.0-"), 32, 3, code),
         (old, 32, 3, code),
         (old, 500, 65_535, code),
         (target(), 500, 32, 0),
