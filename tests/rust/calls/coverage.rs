@@ -58,6 +58,9 @@ const FAILED_WITH: &str = "device failed";
 /// Asking in Loading with no fragment missing.
 const FULL_MAP: &str = "device asked with a full map";
 
+/// Events of one kind that the summary shows.
+const SHOWN: usize = 200;
+
 #[derive(Default)]
 pub struct Coverage {
     counts: BTreeMap<Event, u64>,
@@ -179,13 +182,17 @@ impl Coverage {
         wanted().difference(&met).map(|(kind, first, second)| format!("{kind} {first} {second}")).collect()
     }
 
-    /// One line for each kind of event.
+    /// One line for each kind of event: its events with their counts, or only how many where they are very many.
     pub fn summary(&self) -> String {
-        let mut lines: BTreeMap<&str, String> = BTreeMap::new();
+        let mut kinds: BTreeMap<&str, Vec<String>> = BTreeMap::new();
         for ((kind, first, second), count) in &self.counts {
-            lines.entry(kind).or_default().push_str(&format!(" {first},{second}={count}"));
+            kinds.entry(kind).or_default().push(format!("{first},{second}={count}"));
         }
-        lines.into_iter().map(|(kind, counts)| format!("{kind}:{counts}\n")).collect()
+        let shown = |events: Vec<String>| match events.len() {
+            0..=SHOWN => events.join(" "),
+            many => format!("{many} events"),
+        };
+        kinds.into_iter().map(|(kind, events)| format!("{kind}: {}\n", shown(events))).collect()
     }
 }
 
