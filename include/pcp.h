@@ -76,7 +76,7 @@
 
    A package has 1 to 65,535 fragments of 32 to 500 bytes each, the last one of
    at least 1: up to 32,767,500 bytes.  A version is a text of 1 to 16
-   letters, digits, underscores, hyphens and dots.
+   bytes from A to Z, a to z, 0 to 9, underscore, hyphen and dot.
 
 
    What a host does
@@ -425,10 +425,19 @@
                on_timer();
        }
 
+       // Bytes that are no record, as one that an earlier version of the
+       // library made with a version text that is refused now, get 29. The call
+       // changes nothing: -1 is no installer's code.
+       static int is_record(void)
+       {
+           return pcp_device_install_finished(record, sizeof record, -1) !=
+                  PCP_BAD_RECORD;
+       }
+
        // version is the one that runs, 16 bytes, filled up with 00.
        void on_power_up(const uint8_t *version)
        {
-           int found = restored();
+           int found = restored() && is_record();
 
            begun = 0;
            set_timer(RETRY);
@@ -894,10 +903,10 @@ static inline uint8_t pcp_recognise_message(int supported, int pcp,
 }
 
 /* Makes the record of a device that runs this version: Idle, with nothing
-   downloaded.  The version is a text of 1 to 16 bytes: letters, digits, _, -
-   and dots.  Bytes 00 behind it are filling, as far as there are at most 16
-   bytes in all: an array of 32 with a text and zeros, passed whole, is refused
-   with 17.
+   downloaded.  The version is a text of 1 to 16 bytes from A to Z, a to z,
+   0 to 9, _, - and dot.  Bytes 00 behind it are filling, as far as there are at
+   most 16 bytes in all: an array of 32 with a text and zeros, passed whole, is
+   refused with 17.
    Numbers: 64, 17. */
 static inline uint8_t pcp_device_new(uint8_t *record, size_t record_length,
                                      const void *version,

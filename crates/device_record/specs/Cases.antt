@@ -1,11 +1,11 @@
 -- The device's record in computed cases: the phases that hold a download, the conditions, the making (17), and the tests of 29 and 14.
--- What a row says is written from 01, "The head" and "Numbers returned". Assumes nothing.
+-- What a row says is written from 01, "The head" and "Numbers returned", as 02 (2026-04) amends it. Assumes nothing.
 use Prim.Native.Nat.{ℕ}
 use mathlib.Core.Bool.{Bool, true, false}
 use mathlib.Core.List.{List, [], _∷_}
 use lib.ListN.{replicate}
 use Rattle.basis.specs.Cases.{Agree, allowed}
-use Rattle.message.specs.Cases.{text, noText}
+use Rattle.message.specs.Cases.{text, noText, slashedText}
 use Rattle.device_record.specs.declared.Device.{Device}
 use Rattle.device_record.specs.declared.Made.{Made}
 use Rattle.device_record.specs.Record.{holding, conditionOk, newOf, recordOk, mapBytes, memoryOk}
@@ -34,6 +34,7 @@ abbrev pub making : List (List ℕ × Made)
 making =
     (text 1, record { number = 0; device = device 0 (text 1) (text 1) 0 0 0 0 0 0 }) ∷
     (noText, record { number = 17; device = device 0 (replicate 16 0) (replicate 16 0) 0 0 0 0 0 0 }) ∷
+    (slashedText, record { number = 17; device = device 0 (replicate 16 0) (replicate 16 0) 0 0 0 0 0 0 }) ∷
     []
 
 -- a record, and whether it keeps the rules (29)
@@ -44,6 +45,7 @@ kept =
     (device 0 (text 1) (text 2) 31 0 0 1 32 0x0A, true) ∷
     (device 0 noText (text 2) 0 0 0 0 0 0x00, false) ∷
     (device 0 (text 1) noText 0 0 0 0 0 0x00, false) ∷
+    (device 0 (text 1) slashedText 0 0 0 0 0 0x00, false) ∷
     (device 0 (text 1) (text 2) 0 0 0 0 0 0x02, false) ∷
     -- Loading: each field at the ends of its range, and past them
     (device 1 (text 1) (text 2) 32 1 0 0 32 0x7F, true) ∷

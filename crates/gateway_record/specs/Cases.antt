@@ -1,11 +1,11 @@
 -- The gateway's record in computed cases: total and length of a package, its fields, the start (17, 18, 19), and the test of 29. What a row says
--- is written from 01, "The gateway" and "Numbers returned". Assumes nothing.
+-- is written from 01, "The gateway" and "Numbers returned", as 02 (2026-04) amends it. Assumes nothing.
 use Prim.Native.Nat.{ℕ}
 use mathlib.Core.Bool.{Bool, true, false}
 use mathlib.Core.List.{List, [], _∷_, _++_}
 use lib.ListN.{replicate}
 use Rattle.basis.specs.Cases.{Agree}
-use Rattle.message.specs.Cases.{text, noText}
+use Rattle.message.specs.Cases.{text, noText, slashedText}
 use Rattle.gateway_record.specs.declared.Gateway.{Gateway}
 use Rattle.gateway_record.specs.declared.Started.{Started}
 use Rattle.gateway_record.specs.Record.{totalOf, lengthOk, packageFields, startOf, recordOk}
@@ -37,6 +37,7 @@ starts =
     (text 2, 32, content, false, record { number = 0; gateway = gateway 0 0 (text 2) 32 2 0x0000 33 }) ∷
     (text 2, 32, content, true, record { number = 0; gateway = gateway 0 0 (text 2) 32 2 0x7281 33 }) ∷
     -- 17, 18, 19 in their order
+    (slashedText, 32, content, true, record { number = 17; gateway = gateway 0 0 (replicate 16 0) 0 0 0 0 }) ∷
     (noText, 31, [], true, record { number = 17; gateway = gateway 0 0 (replicate 16 0) 0 0 0 0 }) ∷
     (text 2, 31, [], true, record { number = 18; gateway = gateway 0 0 (replicate 16 0) 0 0 0 0 }) ∷
     (text 2, 32, [], true, record { number = 19; gateway = gateway 0 0 (replicate 16 0) 0 0 0 0 }) ∷
@@ -50,6 +51,7 @@ kept =
     (gateway 5 0 (text 2) 32 2 0 33, false) ∷
     (gateway 4 6 (text 2) 32 2 0 33, false) ∷
     (gateway 0 0 noText 32 2 0 33, false) ∷
+    (gateway 0 0 slashedText 32 2 0 33, false) ∷
     (gateway 0 0 (text 2) 31 2 0 33, false) ∷
     (gateway 0 0 (text 2) 501 1 0 33, false) ∷
     (gateway 0 0 (text 2) 32 0 0 0, false) ∷

@@ -15,9 +15,15 @@ use Rattle.message.specs.Recognition.{versionByteHolds, codeHolds, recog
 abbrev pub text : ℕ → List ℕ
 text n = 0x56 ∷ (0x30 + n) ∷ replicate 14 0x00
 
--- 16 bytes that are no text: "V 1" has a space
+-- 16 bytes that are no text: "V" and a figure with another byte between, a space or a slash
+abbrev pub broken : ℕ → List ℕ
+broken b = 0x56 ∷ b ∷ 0x31 ∷ replicate 13 0x00
+
 abbrev pub noText : List ℕ
-noText = 0x56 ∷ 0x20 ∷ 0x31 ∷ replicate 13 0x00
+noText = broken 0x20
+
+abbrev pub slashedText : List ℕ
+slashedText = broken 0x2F
 
 -- a byte, so many times, and then 00 so many times
 abbrev padded : ℕ → ℕ → ℕ → List ℕ
@@ -37,7 +43,7 @@ texts =
     (padded 0x2E 1 15, true) ∷
     (padded 0x7A 16 0, true) ∷
     (padded 0x00 0 16, false) ∷  -- no byte of text
-    -- a space first, inside, last; and one that fills up
+    -- a space first, inside, last; and one behind 00
     (padded 0x20 1 15, false) ∷
     (padded 0x41 1 0 ++ (padded 0x20 1 0 ++ padded 0x41 1 13), false) ∷
     (padded 0x41 15 0 ++ padded 0x20 1 0, false) ∷
@@ -48,12 +54,16 @@ texts =
     (padded 0x41 1 16, false) ∷  -- 17 bytes
     []
 
--- n numbers, from one on
+-- n numbers, from b on
 abbrev from : (b n : ℕ) → List ℕ
 from b zero = []
 from b (suc n) = b ∷ from (suc b) n
 
--- of all bytes, the results that a message may carry; then its codes, what its version text may hold, and its version bytes
+-- what version text may hold: hyphen and dot, digits, capital letters, underscore, small letters
+abbrev pub characters : List ℕ
+characters = from 0x2D 2 ++ (from 0x30 10 ++ (from 0x41 26 ++ (from 0x5F 1 ++ from 0x61 26)))
+
+-- of all bytes, the results that a message may carry; then its codes, the bytes of a version text, and the version byte
 abbrev pub results : List ((ℕ → Bool) × List ℕ)
 results =
     ((λ (r : ℕ). toDevice .valid (fragment r 0 [])), 0x80 ∷ 0x81 ∷ []) ∷
@@ -67,8 +77,11 @@ results =
     ((λ (r : ℕ). toGateway .valid (resultReport r (text 1))), 0x00 ∷ 0x01 ∷ 0x04 ∷ 0x05 ∷ 0x09 ∷ 0x0A ∷ 0x7F ∷ []) ∷
     (installCode, 0x00 ∷ 0x01 ∷ 0x04 ∷ 0x05 ∷ 0x09 ∷ 0x0A ∷ 0x7F ∷ []) ∷
     ((λ (c : ℕ). codeHolds (0xFF ∷ 0xFE ∷ 0x01 ∷ c ∷ [])), 19 ∷ 20 ∷ 21 ∷ 22 ∷ 23 ∷ 24 ∷ []) ∷
-    -- hyphen and dot, digits, capital letters, underscore, small letters
-    (versionCharacter, from 0x2D 2 ++ (from 0x30 10 ++ (from 0x41 26 ++ (from 0x5F 1 ++ from 0x61 26)))) ∷
+    -- by itself; as the first byte, the second and the last, where 00 fills up
+    (versionCharacter, characters) ∷
+    ((λ (b : ℕ). goodVersion (b ∷ replicate 15 0x00)), characters) ∷
+    ((λ (b : ℕ). goodVersion (0x41 ∷ b ∷ replicate 14 0x00)), 0x00 ∷ characters) ∷
+    ((λ (b : ℕ). goodVersion (replicate 15 0x41 ++ (b ∷ []))), 0x00 ∷ characters) ∷
     -- any reserved bits
     (
       (λ (v : ℕ). versionByteHolds (0xFF ∷ 0xFE ∷ v ∷ [])),
@@ -123,7 +136,7 @@ abbrev pub recognised : List (Bool × Bool × List ℕ × ℕ)
 recognised =
     (true, true, 0xFF ∷ 0xFE ∷ 0x01 ∷ 0x13 ∷ 0x4C ∷ 0x9A ∷ 0x00 ∷ 0x00 ∷ [], 0) ∷  -- 19 query, as published
     (true, true, 0xFF ∷ 0xFE ∷ 0x01 ∷ 0x14 ∷ 0xD7 ∷ 0x68 ∷ 0x00 ∷ 0x01 ∷ 0x00 ∷ [], 0) ∷  -- 20 answer, as published
-    -- with reserved bits in the version byte, and the check over the byte as it is; then with that of 01
+    -- with reserved bits in the version byte, and the check over the byte as it is; then with the check of version byte 01
     (true, true, 0xFF ∷ 0xFE ∷ 0x11 ∷ 0x13 ∷ 0xCB ∷ 0x1F ∷ 0x00 ∷ 0x00 ∷ [], 0) ∷
     (true, true, 0xFF ∷ 0xFE ∷ 0x81 ∷ 0x13 ∷ 0x24 ∷ 0x3C ∷ 0x00 ∷ 0x00 ∷ [], 0) ∷
     (true, true, 0xFF ∷ 0xFE ∷ 0xF1 ∷ 0x14 ∷ 0x56 ∷ 0x91 ∷ 0x00 ∷ 0x01 ∷ 0x00 ∷ [], 0) ∷
