@@ -1,8 +1,4 @@
 pub mod Frames
-pub mod RoundTrip
-pub mod Published
-pub mod Demand2
-pub mod WrittenRead
 pub mod Places
 pub mod Laying
 pub mod Reading

@@ -1,10 +1,8 @@
--- What the ends say: a message that the table allows is written where there is room for it, and the code that stands in the bytes is that of the
--- message read. One law for either direction. Assumes nothing.
-use Prim.Native.Nat.{ℕ, _≤_}
-use mathlib.Core.Path.{_≡_, refl, sym}
-use mathlib.Core.Bool.{Bool}
+-- What the code's enums say: a refusal is not written, a message is. Assumes nothing.
+use Prim.Native.Nat.{ℕ}
+use mathlib.Core.Path.{_≡_, refl}
 use mathlib.Core.List.{List, [], _∷_}
-use lib.ListN.{length, getD}
+use lib.ListN.{length}
 use types.Run.{OneOf, miss}
 use denote.Enum.Declared.{tagOf}
 use Rattle.message.specs.declared.ToDevice
@@ -13,23 +11,9 @@ use Rattle.message.specs.declared.ToGateway
 use Rattle.message.specs.declared.ToGateway.{ToGateway}
 use Rattle.message.proofs.ToDevice as to-device
 use Rattle.message.proofs.ToGateway as to-gateway
-use Rattle.message.specs.Messages.{Table, Reading, found, refused, toDevice, toGateway}
+use Rattle.message.specs.Messages.{toDevice, toGateway}
 use Rattle.message.specs.Enums.{deviceMessage, gatewayMessage}
-use Rattle.codec.specs.Codec.{Sent, readOf, writeOf, said, spoken}
-use Rattle.codec.specs.Answers.{Sayable, OfCode}
-use Rattle.codec.specs.Demand2.{RoundTrips}
-
-module _ (t : Table) (trips : RoundTrips t) where
-  pub spoken-said : (r : Reading (t .Message)) (buffer : List ℕ) → t .room ≤ length buffer → Sayable t r → spoken t r buffer ≡ said t r buffer
-  unfolding spoken said
-  spoken-said (found m) buffer room v = trips .sent-valid m v buffer room
-  spoken-said (refused n) buffer room v = refl
-
-  pub code-read : (supported pcp : Bool) (bytes : List ℕ) (r : Reading (t .Message)) → r ≡ readOf t supported pcp bytes → OfCode t (getD bytes 3 0) r
-  code-read supported pcp bytes (found m) e = trips .read-code supported pcp bytes m (sym e)
-  code-read supported pcp bytes (refused n) e = tt
-
--- ---- the code's enums: a refusal is not written, a message is
+use Rattle.codec.specs.Codec.{Sent, writeOf, spoken}
 
 module _ (version buffer : List ℕ) where
   pub device-refusal : (bytes : List ℕ) (m : ToDevice) (n : ℕ) → m ≡ ToDevice.Refused n

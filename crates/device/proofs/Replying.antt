@@ -16,8 +16,8 @@ use Rattle.codec.specs.declared.Written.{Written}
 use Rattle.codec.specs.Codec.{Sent, unsent, said, spoken}
 use Rattle.codec.specs.Answers.{sent, Sayable}
 use Rattle.message.specs.declared.Fields.{Fields}
-use Rattle.codec.proofs.RoundTrip.{gateway-round-trip}
-use Rattle.codec.proofs.Speaking.{spoken-said}
+use Rattle.round_trips.proofs.RoundTrip.{gateway-round-trip}
+use Rattle.round_trips.proofs.Said.{spoken-said}
 use Rattle.device_record.specs.declared.Device.{Device}
 use Rattle.device_record.specs.Record.{loading, conditionOk, recordOk, askRefusal}
 use Rattle.device.specs.Rules.{replied, announceResult, executeResult, wanted, nextMessageOf}

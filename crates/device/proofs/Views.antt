@@ -19,7 +19,7 @@ use Rattle.message.specs.Messages.{announceReply, fragmentRequest, downloadRepo
 use Rattle.message.specs.Messages.{found, refused, toDevice, toGateway, deviceRow}
 use Rattle.codec.specs.Codec.{sealed, frame, bytesOf, readOf, said}
 use Rattle.message.specs.declared.Fields.{Fields}
-use Rattle.codec.proofs.WrittenRead.{read}
+use Rattle.round_trips.proofs.WrittenRead.{read}
 use Rattle.device_decisions.proofs.Accepted.{Accepted, accepted-facts}
 use Rattle.device_record.specs.declared.Device.{Device}
 use Rattle.device_record.specs.Record.{idle, loading, loaded, acked, failed, installing, reporting, holding, inPhase, begun, withFragment, withOutcome}

@@ -16,8 +16,8 @@ use Rattle.message.specs.Messages.{DeviceMessage, query, announce, execute, Rea
 use Rattle.message.specs.Enums.{gatewayMessage}
 use Rattle.codec.specs.Codec.{Sent, readOf, said, spoken}
 use Rattle.codec.specs.Answers.{versionPlace, OfCode}
-use Rattle.codec.proofs.RoundTrip.{device-round-trip, gateway-round-trip}
-use Rattle.codec.proofs.Speaking.{spoken-said, code-read}
+use Rattle.round_trips.proofs.RoundTrip.{device-round-trip, gateway-round-trip}
+use Rattle.round_trips.proofs.Said.{spoken-said, code-read}
 use Rattle.gateway_record.specs.declared.Gateway.{Gateway}
 use Rattle.gateway_record.specs.Record.{ask, offer, run, recordOk, callRefusal}
 use Rattle.gateway.specs.Rules.{refuse, handle, receiveOf, wanted, nextMessageOf}

@@ -13,8 +13,8 @@ use Rattle.message.specs.Messages.{DeviceMessage, query, announce, fragment, ex
 use Rattle.codec.specs.declared.Written.{Written}
 use Rattle.codec.specs.Codec.{Sent, said, spoken}
 use Rattle.codec.specs.Answers.{sent, Sayable}
-use Rattle.codec.proofs.RoundTrip.{device-round-trip}
-use Rattle.codec.proofs.Speaking.{spoken-said}
+use Rattle.round_trips.proofs.RoundTrip.{device-round-trip}
+use Rattle.round_trips.proofs.Said.{spoken-said}
 use Rattle.gateway_record.specs.declared.Gateway.{Gateway}
 use Rattle.gateway_record.specs.Record.{totalOf, fragmentOf, recordOk}
 use Rattle.gateway_record.proofs.Package.{total-most, total-some, stretch-fits, stretch-some}

@@ -14,7 +14,7 @@ use Rattle.message.specs.Messages.{DeviceMessage, query, announce, fragment, do
 use Rattle.message.specs.Messages.{Reading, found, refused, toDevice}
 use Rattle.message.specs.Messages.{deviceRow}
 use Rattle.codec.specs.Codec.{readOf}
-use Rattle.codec.proofs.RoundTrip.{device-round-trip}
+use Rattle.round_trips.proofs.RoundTrip.{device-round-trip}
 use Rattle.device_record.specs.declared.Device.{Device}
 use Rattle.device_record.specs.declared.Made.{Made}
 use Rattle.device_record.specs.Record.{newOf}

@@ -13,8 +13,8 @@ use Rattle.basis.proofs.Choosing.{by-cases, pick-no, refusal-among}
 use Rattle.message.specs.Messages.{DeviceMessage, query, announce, fragment, downloadReply, execute, resultReply, GatewayMessage, queryReply, announceReply}
 use Rattle.message.specs.Messages.{fragmentRequest, downloadReport, executeReply, resultReport, Table, Reading, found, refused, toDevice, toGateway}
 use Rattle.codec.specs.Codec.{readOf, said}
-use Rattle.codec.specs.Demand2.{RoundTrips}
-use Rattle.codec.proofs.RoundTrip.{device-round-trip, gateway-round-trip}
+use Rattle.round_trips.specs.Demand2.{RoundTrips}
+use Rattle.round_trips.proofs.RoundTrip.{device-round-trip, gateway-round-trip}
 use Rattle.device_record.specs.declared.Device.{Device}
 use Rattle.device.specs.declared.Finished.{Finished}
 use Rattle.device.specs.Rules as device

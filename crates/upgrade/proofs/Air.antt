@@ -11,7 +11,7 @@ use Rattle.basis.proofs.Choosing.{by-cases}
 use Rattle.basis.proofs.Lists.{take-over}
 use Rattle.message.specs.Messages.{Table, Reading, found}
 use Rattle.codec.specs.Codec.{bytesOf, readOf}
-use Rattle.codec.proofs.WrittenRead.{Told, heard-by}
+use Rattle.round_trips.proofs.WrittenRead.{Told, heard-by}
 use Rattle.upgrade.specs.Calls.{aired}
 
 module _ (t : Table) where

@@ -15,7 +15,7 @@ use Rattle.message.specs.Limits.{deviceRoom, gatewayRoom}
 use Rattle.message.specs.Messages.{DeviceMessage, GatewayMessage, Table, Reading, found, toDevice, toGateway}
 use Rattle.codec.specs.Codec.{Sent, bytesOf, said}
 use Rattle.codec.proofs.Frames.{length-frame}
-use Rattle.codec.proofs.RoundTrip.{device-round-trip, gateway-round-trip}
+use Rattle.round_trips.proofs.RoundTrip.{device-round-trip, gateway-round-trip}
 use Rattle.device_record.specs.Record.{conditionOk}
 use Rattle.device_record.specs.Record as device
 use Rattle.device.specs.Rules as device-rules

@@ -6,7 +6,7 @@ use mathlib.Core.Path.{_≡_, _∙_}
 use mathlib.Core.List.{List}
 use Rattle.message.specs.Messages.{DeviceMessage, execute, GatewayMessage, executeReply, found, toDevice, toGateway}
 use Rattle.codec.specs.Codec.{readOf}
-use Rattle.codec.proofs.WrittenRead.{device-told, gateway-told}
+use Rattle.round_trips.proofs.WrittenRead.{device-told, gateway-told}
 use Rattle.device.proofs.Views.{hears, installs, spoken}
 use Rattle.gateway_record.specs.Record as gateway
 use Rattle.upgrade.specs.Calls.{DeviceCall, given, asked, finished, GatewayCall, atDevice, atGateway, next, May}

@@ -4,8 +4,8 @@ use borrow.Author.Needs.{needs}
 use mathlib.Core.Path.{sym, _∙_}
 use Rattle.basis.proofs.Choosing.{pick-yes, pick-no}
 use Rattle.message.specs.Messages.{toDevice}
-use Rattle.codec.proofs.RoundTrip.{device-round-trip}
-use Rattle.codec.proofs.Speaking.{code-read}
+use Rattle.round_trips.proofs.RoundTrip.{device-round-trip}
+use Rattle.round_trips.proofs.Said.{code-read}
 use Rattle.device.specs.Rules.{receiveOf}
 use Rattle.device.proofs.Guarded.{receiving-passed}
 use Rattle.device.proofs.steps.receive.Statement.{statement}

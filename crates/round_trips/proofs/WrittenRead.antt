@@ -12,8 +12,8 @@ use Rattle.basis.specs.Bytes.{wordAt, wordBytes}
 use Rattle.message.specs.declared.Fields.{Fields}
 use Rattle.message.specs.Messages.{DeviceMessage, deviceFields, GatewayMessage, gatewayFields, Table, toDevice, toGateway, found, deviceRow}
 use Rattle.message.specs.Messages.{gatewayRow}
 use Rattle.codec.specs.Codec.{sealed, frame, bytesOf, readOf}
-use Rattle.codec.proofs.RoundTrip.{FoundIn, Tells, read-tells}
+use Rattle.round_trips.proofs.RoundTrip.{FoundIn, Tells, read-tells}
 
 module _ (t : Table) (supported pcp : Bool) where
   -- what a reading tells

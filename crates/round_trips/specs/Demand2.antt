@@ -9,8 +9,8 @@ use Rattle.basis.specs.Bytes.{Bytes, over}
 use Rattle.checksum.specs.Neighbours.{Neighbours}
 use Rattle.message.specs.Recognition.{protocolVersion, recognition}
 use Rattle.message.specs.Messages.{Table, toDevice, toGateway, Reading, found, refused}
 use Rattle.codec.specs.Codec.{sealed, Sent, bytesOf, readOf, writeOf, said}
-use Rattle.codec.specs.Published.{Published}
+use Rattle.round_trips.specs.Published.{Published}
 
 -- the upper four bits of the version byte, as a number
 unfoldable pub reservedBits : List ℕ → ℕ

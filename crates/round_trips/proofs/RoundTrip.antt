@@ -12,10 +12,10 @@ use Rattle.basis.proofs.Choosing.{pick-yes, pick-no, by-cases, and-left, and-ri
 use Rattle.basis.proofs.Lists.{same-true, same-refl, take-over}
 use Rattle.message.specs.Recognition.{protocolVersion, recognition}
 use Rattle.message.specs.Messages.{Table, toDevice, toGateway, Reading, found, refused}
 use Rattle.codec.specs.Codec.{sealed, frame, Sent, bytesOf, readOf, writeOf, said}
-use Rattle.codec.specs.Demand2.{reservedBits, RoundTrips}
+use Rattle.round_trips.specs.Demand2.{reservedBits, RoundTrips}
 use Rattle.codec.proofs.Frames.{length-frame, framed, framed-frame, framed-set, framed-code, framed-data, framed-recognised}
 use Rattle.codec.proofs.Frames.{Recognised, recognised, recognised-facts, recognised-framed}
 use Rattle.message.proofs.Tables.{Lawful, device-lawful, gateway-lawful}
 
 -- ---- reading
