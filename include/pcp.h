@@ -74,9 +74,13 @@
        6  length     two bytes, the number of data bytes
        8  data       most answers: one byte, 00 for yes
 
-   A package has 1 to 65,535 fragments of 32 to 500 bytes each, the last one of
-   at least 1: up to 32,767,500 bytes.  A version is a text of 1 to 16
-   bytes from A to Z, a to z, 0 to 9, underscore, hyphen and dot.
+   A package has 1 to 65,535 fragments of 32 to 1,024 bytes each (PCP_SIZE_MIN,
+   PCP_SIZE_MAX), the last one of at least 1: up to 67,107,840 bytes.  Public
+   platforms cut theirs into fragments of at most 500 bytes, PCP_SIZE_PUBLIC.
+   Take no more where the device may have been made for one of those, or has an
+   earlier version of this library: it does not answer a larger announcement.  A
+   version is a text of 1 to 16 bytes from A to Z, a to z, 0 to 9, underscore,
+   hyphen and dot.
 
 
    What a host does
@@ -470,8 +474,9 @@
        {
            executing = 0;
            set_timer(0);
-           return pcp_gateway_start(record, sizeof record, "V2.0", 4, 500,
-                                    package, package_length, 1);
+           return pcp_gateway_start(record, sizeof record, "V2.0", 4,
+                                    PCP_SIZE_PUBLIC, package, package_length,
+                                    1);
        }
 
        void on_timer(const uint8_t *package, size_t package_length)
@@ -573,7 +578,8 @@ enum {
                                      PCP_GATEWAY_REPLY */
     PCP_BAD_INSTALL_CODE = 16,    /* none of the installer's codes below */
     PCP_BAD_VERSION_TEXT = 17,    /* see pcp_device_new */
-    PCP_BAD_SIZE = 18,            /* fragment size not from 32 to 500 */
+    PCP_BAD_SIZE = 18,            /* fragment size not from PCP_SIZE_MIN to
+                                     PCP_SIZE_MAX */
     PCP_BAD_PACKAGE = 19,         /* package empty, or longer than 65,535
                                      fragments */
     PCP_BAD_RECORD = 29,          /* the record breaks its rules, see below; or
@@ -584,12 +590,19 @@ enum {
                                      PCP_GATEWAY_RECORD */
 };
 
+/* Fragment sizes. */
+enum {
+    PCP_SIZE_MIN = 32,
+    PCP_SIZE_MAX = 1024,
+    PCP_SIZE_PUBLIC = 500 /* the most in public platforms' packages */
+};
+
 /* Lengths of buffers. */
 enum {
     PCP_DEVICE_RECORD = 44,  /* a device's record, exactly; more may be lent */
     PCP_GATEWAY_RECORD = 30, /* a gateway's */
     PCP_DEVICE_REPLY = 26,   /* a device's reply buffer, at least */
-    PCP_GATEWAY_REPLY = 511, /* a gateway's */
+    PCP_GATEWAY_REPLY = PCP_SIZE_MAX + 11, /* a gateway's */
     PCP_VERSION_LENGTH = 16  /* a version text in records and messages */
 };
 
@@ -699,10 +712,9 @@ enum {
 
    What a record must keep to, or it is PCP_BAD_RECORD.  A device: one of the
    phases, two version texts, one of the installer's codes; outside Idle also a
-   size from 32 to 500, a total of at least 1, stored at most total (in Loading
-   less), last length at most size.  A gateway: one of the phases, an ending
-   number, a version text, a size from 32 to 500, a length of 1 to 65,535
-   fragments. */
+   size as above, a total of at least 1, stored at most total (in Loading less),
+   last length at most size.  A gateway: one of the phases, an ending number, a
+   version text, a size as above, a length of 1 to 65,535 fragments. */
 
 /* What calls with a reply give.  Image bytes are written by pcp_device_receive
    alone: those of a fragment that it stored. */
@@ -993,8 +1005,8 @@ static inline uint8_t pcp_device_install_finished(uint8_t *record,
 }
 
 /* Makes the record of a gateway that is to bring one device to this version
-   with this package, in fragments of size bytes, 32 to 500.  The version text
-   is as for pcp_device_new.  With checked, the package's check is announced as
+   with this package, in fragments of size bytes (PCP_SIZE_MIN to PCP_SIZE_MAX).
+   The version text is as for pcp_device_new.  With checked, the package's check is announced as
    its code: the device then tests the whole image, and can resume.  Otherwise
    (or if that check happens to be 0) the code is 0: no test, no resume.
    Numbers: 64, 17, 18, 19. */

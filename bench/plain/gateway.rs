@@ -1,7 +1,7 @@
 //! The gateway. Its caller lends record, package and reply buffer to each call.
 
 use crate::check::check;
-use crate::message::{self, is_size, is_version, Facts, ToGateway, Version};
+use crate::message::{self, is_size, is_version, Facts, ToGateway, Version, MOST_SIZE};
 use crate::{number, require, Answer};
 
 const ASK: u8 = 0;
@@ -21,7 +21,7 @@ const ACCEPTED: u8 = 0x00;
 const NO_UPGRADE: u8 = 0x80;
 const NO_FRAGMENT: u8 = 0x81;
 
-const REPLY: usize = 511;
+const REPLY: usize = 11 + MOST_SIZE as usize;
 const MOST_FRAGMENTS: usize = 65_535;
 
 /// The record. A caller may have kept it anywhere, so each call tests it.

@@ -17,7 +17,7 @@ const VERSION_BITS: u8 = 0x0F;
 const HEADER: usize = 8;
 
 pub const LEAST_SIZE: u16 = 32;
-pub const MOST_SIZE: u16 = 500;
+pub const MOST_SIZE: u16 = 1024;
 
 /// A version text, filled up with 00.
 pub type Version = [u8; 16];

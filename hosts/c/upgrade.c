@@ -1,6 +1,7 @@
-/* upgrade PACKAGE [SEED] - upgrades a simulated device from a package file,
-   over a simulated link that loses, repeats, delays and reorders messages, and
-   is down at times.  The seed, a number, fixes what goes wrong.
+/* upgrade PACKAGE [SEED [SIZE]] - upgrades a simulated device from a package
+   file, over a simulated link that loses, repeats, delays and reorders messages,
+   and is down at times.  The seed, a number, fixes what goes wrong.  The size is
+   that of a fragment: as in public platforms' packages, if none is given.
 
    This is an example of both hosts of pcp.h.  Device and gateway know of each
    other only what the link brings.  What a host has to do, and can be copied:
@@ -27,9 +28,8 @@
 #define TARGET "V2.0"  /* the version of the package */
 
 enum {
-    FRAGMENT_SIZE = 256,
-    OTHER_FRAGMENT_SIZE = 240, /* see gateway_next */
-    MOST_PACKAGE = FRAGMENT_SIZE * 65535,
+    SMALLER = 16, /* how much the other size is smaller, see gateway_next */
+    MOST_PACKAGE = PCP_SIZE_MAX * 65535,
     IMAGE_LENGTH = 1 << 20,             /* the device's flash for a package */
     MAP_LENGTH = IMAGE_LENGTH / 32 / 8, /* enough for the smallest fragments */
     ERASED = 0xFF                       /* a byte of erased flash */
@@ -286,6 +286,7 @@ struct gateway {
     const uint8_t *package;
     size_t package_length;
     uint16_t size;          /* of a fragment */
+    uint16_t first_size;    /* that of the first gateway */
     unsigned long ask_at;   /* when to ask for the next message */
     unsigned long heard_at; /* when the last message was handled */
     unsigned long over_at;  /* when it ended or was seen to stand still */
@@ -435,6 +436,12 @@ static void gateway_ask(struct gateway *gateway, struct link *link,
     gateway->ask_at = now + RETRY;
 }
 
+/* Smaller if that is still a size, else larger. */
+static uint16_t other_size(uint16_t size)
+{
+    return size >= PCP_SIZE_MIN + SMALLER ? size - SMALLER : size + SMALLER;
+}
+
 /* The next gateway, on the same package.  One that stood still in Serve, and
    was asked for nothing, may have met a device that holds the whole package and
    has told it to an earlier gateway.  Another fragment size makes an offer that
@@ -449,8 +456,9 @@ static bool gateway_next(struct gateway *gateway, unsigned long now)
     else if (++gateway->fruitless == MOST_FRUITLESS)
         return false;
     if (in_serve && gateway->requests == 0)
-        gateway->size = gateway->size == FRAGMENT_SIZE ? OTHER_FRAGMENT_SIZE
-                                                       : FRAGMENT_SIZE;
+        gateway->size = gateway->size == gateway->first_size
+                            ? other_size(gateway->first_size)
+                            : gateway->first_size;
     return gateway_start(gateway, now) == PCP_HANDLED;
 }
 
@@ -544,12 +552,14 @@ static int report(const struct device *device, const struct gateway *gateway,
     return EXIT_FAILURE;
 }
 
-static int run(const uint8_t *package, size_t package_length, uint64_t seed)
+static int run(const uint8_t *package, size_t package_length, uint64_t seed,
+               uint16_t size)
 {
     static struct device device; /* too large for a stack */
     struct gateway gateway = {.package = package,
                               .package_length = package_length,
-                              .size = FRAGMENT_SIZE};
+                              .size = size,
+                              .first_size = size};
     struct link link = {.random = seed};
     uint8_t number = gateway_start(&gateway, 0);
 
@@ -558,7 +568,8 @@ static int run(const uint8_t *package, size_t package_length, uint64_t seed)
                 (unsigned)number,
                 number == PCP_BAD_PACKAGE
                     ? ": it is empty, or longer than 65,535 fragments"
-                    : "");
+                : number == PCP_BAD_SIZE ? ": no fragment size"
+                                         : "");
         return EXIT_FAILURE;
     }
     device_start(&device, ~seed);
@@ -585,27 +596,28 @@ static bool read_package(const char *path, uint8_t *package, size_t most,
 }
 
 /* Digits alone, for strtoull also takes signs and blanks. */
-static bool read_seed(const char *text, uint64_t *seed)
+static bool read_number(const char *text, uint64_t most, uint64_t *number)
 {
     if (*text == 0 || strspn(text, "0123456789") != strlen(text))
         return false;
     errno = 0;
-    *seed = strtoull(text, NULL, 10);
-    return errno == 0;
+    *number = strtoull(text, NULL, 10);
+    return errno == 0 && *number <= most;
 }
 
 int main(int count, char **arguments)
 {
     static uint8_t package[MOST_PACKAGE + 1];
     size_t length = 0;
-    uint64_t seed = 1;
+    uint64_t seed = 1, size = PCP_SIZE_PUBLIC;
 
-    if (count < 2 || count > 3 ||
-        (count == 3 && !read_seed(arguments[2], &seed))) {
-        fputs("usage: upgrade PACKAGE [SEED]\n", stderr);
+    if (count < 2 || count > 4 ||
+        (count > 2 && !read_number(arguments[2], UINT64_MAX, &seed)) ||
+        (count > 3 && !read_number(arguments[3], UINT16_MAX, &size))) {
+        fputs("usage: upgrade PACKAGE [SEED [SIZE]]\n", stderr);
         return 2;
     }
     if (!read_package(arguments[1], package, sizeof package, &length))
         return EXIT_FAILURE;
-    return run(package, length, seed);
+    return run(package, length, seed, (uint16_t)size);
 }

@@ -185,7 +185,7 @@
 //! # A gateway
 //!
 //! ```
-//! use pcp::{Code, Ending, Facts, Gateway, GatewayPhase, Refusal, GATEWAY_REPLY};
+//! use pcp::{Code, Ending, Facts, Gateway, GatewayPhase, Refusal, GATEWAY_REPLY, SIZE_PUBLIC};
 //!
 //! struct Host {
 //!     gateway: Gateway,
@@ -195,7 +195,7 @@
 //!
 //! impl Host {
 //!     fn new(package: Vec<u8>) -> Result<Host, Refusal> {
-//!         let gateway = Gateway::start(b"V2.0", 500, &package, true)?;
+//!         let gateway = Gateway::start(b"V2.0", SIZE_PUBLIC, &package, true)?;
 //!         Ok(Host { gateway, package, executing: false })
 //!     }
 //!
@@ -279,6 +279,12 @@ use core::ops::Range;
 #[allow(missing_docs)] // the calls' names are those of the methods here
 pub mod raw;
 
+/// The smallest fragment size.
+pub const SIZE_MIN: u16 = 32;
+/// The largest fragment size.
+pub const SIZE_MAX: u16 = 1024;
+/// The most in public platforms' packages: take no more where a device may also meet one of those.
+pub const SIZE_PUBLIC: u16 = 500;
 /// A device's record, in bytes.
 pub const DEVICE_RECORD: usize = 44;
 /// A gateway's record, in bytes.
@@ -286,7 +292,7 @@ pub const GATEWAY_RECORD: usize = 30;
 /// The shortest reply buffer of a device.
 pub const DEVICE_REPLY: usize = 26;
 /// The shortest reply buffer of a gateway. No message is longer.
-pub const GATEWAY_REPLY: usize = 511;
+pub const GATEWAY_REPLY: usize = SIZE_MAX as usize + 11;
 /// A version in records and messages, in bytes.
 pub const VERSION_LENGTH: usize = 16;
 
@@ -469,7 +475,7 @@ bytes_named! {
         ShortReply = 15: "reply buffer too short",
         BadInstallCode = 16: "unknown installer code",
         BadVersionText = 17: "bad version text",
-        BadSize = 18: "fragment size not from 32 to 500",
+        BadSize = 18: "fragment size not from 32 to 1024",
         BadPackage = 19: "package empty, or longer than 65,535 fragments",
         BadRecord = 29: "not a record, or not this map's",
         ShortRecord = 64: "record buffer too short",
@@ -747,7 +753,8 @@ pub struct GatewayAnswer<'r> {
 }
 
 impl Gateway {
-    /// A gateway that is to bring a device to this version, with this package in fragments of `size` bytes, 32 to 500.
+    /// A gateway that is to bring a device to this version, with this package in fragments of `size` bytes,
+    /// [`SIZE_MIN`] to [`SIZE_MAX`].
     /// The version text is as for [`Device::new`]. With `checked` the package's check is announced as its code: the
     /// device then tests the whole image, and can resume. Otherwise, or if that check happens to be 0: no test, no
     /// resume.

@@ -1,5 +1,6 @@
-//! `upgrade PACKAGE [SEED]` upgrades a simulated device from a package file, over a simulated link that loses, repeats,
-//! delays and reorders messages, and is down at times. The seed, a number, fixes what goes wrong.
+//! `upgrade PACKAGE [SEED [SIZE]]` upgrades a simulated device from a package file, over a simulated link that loses,
+//! repeats, delays and reorders messages, and is down at times. The seed, a number, fixes what goes wrong. The size is
+//! that of a fragment: as in public platforms' packages, if none is given.
 //!
 //! This is an example of both hosts of the crate `pcp`. Device and gateway know of each other only what the link
 //! brings. What a host has to do, and can be copied:
@@ -13,21 +14,21 @@
 //! hosts/c/upgrade.c is the same program in C, and prints the same.
 
 use pcp::{Code, Condition, Device, DevicePhase, Ending, Facts, Gateway, GatewayPhase, InstallCode, Refusal};
-use pcp::{DeviceAnswer, DEVICE_REPLY, GATEWAY_REPLY};
+use pcp::{DeviceAnswer, DEVICE_REPLY, GATEWAY_REPLY, SIZE_MAX, SIZE_MIN, SIZE_PUBLIC};
 use std::fmt::Arguments;
 use std::fs::File;
 use std::io::{self, Read, Write};
 use std::process::ExitCode;
+use std::str::FromStr;
 use std::{env, fmt};
 
 /// The version on the device, and that of the package.
 const RUNNING: &str = "V1.0";
 const TARGET: &str = "V2.0";
 
-const FRAGMENT_SIZE: u16 = 256;
-/// See `GatewayHost::next`.
-const OTHER_FRAGMENT_SIZE: u16 = 240;
-const MOST_PACKAGE: u64 = FRAGMENT_SIZE as u64 * 65_535;
+/// How much the other fragment size is smaller, see `GatewayHost::next`.
+const SMALLER: u16 = 16;
+const MOST_PACKAGE: u64 = SIZE_MAX as u64 * 65_535;
 /// The device's flash for a package.
 const IMAGE_LENGTH: usize = 1 << 20;
 /// Enough for the smallest fragments.
@@ -76,7 +77,7 @@ enum Failure {
 impl fmt::Display for Failure {
     fn fmt(&self, f: &mut fmt::Formatter) -> fmt::Result {
         match self {
-            Failure::Usage => write!(f, "usage: upgrade PACKAGE [SEED]"),
+            Failure::Usage => write!(f, "usage: upgrade PACKAGE [SEED [SIZE]]"),
             Failure::Read(path, error) => write!(f, "upgrade: cannot read {}: {}", path, error),
             Failure::Package(refusal) => {
                 write!(f, "upgrade: package refused with {}, {}", u8::from(*refusal), refusal)
@@ -315,6 +316,8 @@ struct GatewayHost<'a> {
     package: &'a [u8],
     /// Of a fragment.
     size: u16,
+    /// That of the first gateway.
+    first_size: u16,
     /// When to ask for the next message.
     ask_at: Ticks,
     /// When the last message was handled.
@@ -334,12 +337,22 @@ fn start(size: u16, package: &[u8]) -> Result<Gateway, Failure> {
     Gateway::start(TARGET.as_bytes(), size, package, true).map_err(Failure::Package)
 }
 
+/// Smaller if that is still a size, else larger.
+fn other_size(size: u16) -> u16 {
+    if size >= SIZE_MIN + SMALLER {
+        size - SMALLER
+    } else {
+        size + SMALLER
+    }
+}
+
 impl<'a> GatewayHost<'a> {
-    fn new(package: &'a [u8]) -> Result<GatewayHost<'a>, Failure> {
+    fn new(package: &'a [u8], size: u16) -> Result<GatewayHost<'a>, Failure> {
         Ok(GatewayHost {
-            gateway: start(FRAGMENT_SIZE, package)?,
+            gateway: start(size, package)?,
             package,
-            size: FRAGMENT_SIZE,
+            size,
+            first_size: size,
             ask_at: 0,
             heard_at: 0,
             over_at: None,
@@ -444,7 +457,7 @@ impl<'a> GatewayHost<'a> {
             return Ok(false);
         }
         if self.gateway.phase() == GatewayPhase::Serve && self.requests == 0 {
-            self.size = if self.size == FRAGMENT_SIZE { OTHER_FRAGMENT_SIZE } else { FRAGMENT_SIZE };
+            self.size = if self.size == self.first_size { other_size(self.first_size) } else { self.first_size };
         }
         self.gateway = start(self.size, self.package)?;
         self.ask_at = now;
@@ -523,24 +536,25 @@ fn read_package(path: &str) -> Result<Vec<u8>, Failure> {
 }
 
 /// Digits alone, for `parse` also takes a sign.
-fn read_seed(text: &str) -> Option<u64> {
+fn read_number<T: FromStr>(text: &str) -> Option<T> {
     text.parse().ok().filter(|_| text.bytes().all(|byte| byte.is_ascii_digit()))
 }
 
-fn arguments() -> Option<(String, u64)> {
+fn arguments() -> Option<(String, u64, u16)> {
     let arguments: Vec<String> =
         env::args_os().skip(1).map(|argument| argument.into_string().ok()).collect::<Option<_>>()?;
     match arguments.as_slice() {
-        [path] => Some((path.clone(), 1)),
-        [path, seed] => Some((path.clone(), read_seed(seed)?)),
+        [path] => Some((path.clone(), 1, SIZE_PUBLIC)),
+        [path, seed] => Some((path.clone(), read_number(seed)?, SIZE_PUBLIC)),
+        [path, seed, size] => Some((path.clone(), read_number(seed)?, read_number(size)?)),
         _ => None,
     }
 }
 
 fn run() -> Result<bool, Failure> {
-    let (path, seed) = arguments().ok_or(Failure::Usage)?;
+    let (path, seed, size) = arguments().ok_or(Failure::Usage)?;
     let package = read_package(&path)?;
-    let mut gateway = GatewayHost::new(&package)?;
+    let mut gateway = GatewayHost::new(&package, size)?;
     let mut device = DeviceHost::new(!seed)?;
     let mut link = Link::new(seed);
     let succeeded = upgrade(&mut device, &mut gateway, &mut link)?;

@@ -350,13 +350,13 @@ static void deliver(void)
 /* Another size if the device may hold all already, see the header. */
 static void start_gateway(void)
 {
-    static size_t size = 500;
+    static size_t size = PCP_SIZE_PUBLIC;
     int acked = pcp_gateway_phase(gateway_record) == PCP_GATEWAY_SERVE &&
                 requests == 0;
 
     expect(begin(package, package_length) == PCP_HANDLED, "start refused");
-    size = acked && size == 500 ? 480 : 500;
-    if (size != 500)
+    size = acked && size == PCP_SIZE_PUBLIC ? 480 : PCP_SIZE_PUBLIC;
+    if (size != PCP_SIZE_PUBLIC)
         expect(pcp_gateway_start(gateway_record, sizeof gateway_record,
                                  new_version, 4, size, package, package_length,
                                  1) == PCP_HANDLED,

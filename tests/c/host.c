@@ -354,7 +354,7 @@ static void try_wrong_length_field(uint8_t code, size_t data)
 
 static void try_messages_of_code(uint8_t code)
 {
-    static const size_t data[] = {0, 1, 2, 17, 18, 19, 22, 255, 256, 503};
+    static const size_t data[] = {0, 1, 2, 17, 18, 19, 22, 255, 256, 1027};
 
     for (size_t i = 0; i < sizeof data / sizeof data[0]; i++) {
         size_t length = make(code, data[i]);
@@ -502,7 +502,7 @@ static const int wide[] = {-1,  -128, -256,   255,     256,     257,
                            260, 4096, 0x7F00, 0x10000, INT_MAX, INT_MIN};
 enum { WIDE = sizeof wide / sizeof wide[0] };
 
-static uint8_t record[PCP_DEVICE_RECORD], image[500], map[1];
+static uint8_t record[PCP_DEVICE_RECORD], image[PCP_SIZE_MAX], map[1];
 
 static unsigned device_given(const char *hex, int condition, size_t room)
 {
@@ -581,21 +581,29 @@ static unsigned started(const char *version, size_t size, size_t package)
 
 static void try_wide_sizes(void)
 {
-    static const size_t size[] = {65536 + 500, 65536 + 32, 65536, 131072 + 256,
-                                  (size_t)INT_MAX + 1 + 500,
-                                  SIZE_MAX - 65535 + 500, SIZE_MAX};
+    static const size_t size[] = {65536 + PCP_SIZE_MAX,
+                                  65536 + PCP_SIZE_MIN,
+                                  65536,
+                                  131072 + 256,
+                                  (size_t)INT_MAX + 1 + PCP_SIZE_MAX,
+                                  SIZE_MAX - 65535 + PCP_SIZE_MAX,
+                                  SIZE_MAX};
     uint8_t before[PCP_DEVICE_RECORD];
 
     memcpy(before, record, sizeof before);
     for (size_t i = 0; i < sizeof size / sizeof size[0]; i++) {
-        expect_refused("wide size", PCP_BAD_SIZE, started("V1.0", size[i], 500),
-                       before);
+        expect_refused("wide size", PCP_BAD_SIZE,
+                       started("V1.0", size[i], sizeof image), before);
         expect_refused("wide size, no package", PCP_BAD_SIZE,
                        started("V1.0", size[i], 0), before);
         expect_refused("wide size, bad version", PCP_BAD_VERSION_TEXT,
-                       started("V1\n0", size[i], 500), before);
+                       started("V1\n0", size[i], sizeof image), before);
     }
-    expect("size", 0, started("V1.0", 500, 500), record, sizeof record);
+    for (size_t i = PCP_SIZE_MIN - 1; i <= PCP_SIZE_MAX + 1; i++)
+        expect("size", i < 32 || i > 1024 ? PCP_BAD_SIZE : 0,
+               started("V1.0", i, sizeof image), record, sizeof record);
+    expect("size", 0, started("V1.0", 1024, sizeof image), record,
+           sizeof record);
 }
 
 /* Every byte at every place of a version text, made, started, announced and
@@ -676,7 +684,7 @@ static void set_word(size_t at, unsigned value)
 
 static size_t make_announcement(void)
 {
-    static const unsigned size[] = {31, 32, 33, 100, 500};
+    static const unsigned size[] = {31, 32, 33, 100, 1024};
     size_t length = make(PCP_ANNOUNCE, 22);
 
     memset(message + 8, 0, PCP_VERSION_LENGTH);

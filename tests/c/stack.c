@@ -10,7 +10,7 @@
 #include <stdlib.h>
 #include <ucontext.h>
 
-enum { STACK = 1 << 16, PAINT = 0xA5, SIZE = 500, PACKAGE = 3 * SIZE + 77 };
+enum { STACK = 1 << 16, PAINT = 0xA5, SIZE = PCP_SIZE_MAX, PACKAGE = 3 * SIZE + 77 };
 
 #define STATED 1.25
 

@@ -238,7 +238,7 @@ impl Run {
     /// A message that ends in a field fails there, be its check right or not.
     fn cut_short(&mut self) {
         for code in 19..=24 {
-            let data = self.random.bytes(500);
+            let data = self.random.bytes(1_024);
             let whole = self.model.message(code, &data);
             for length in 0..whole.len() {
                 let mut message = whole[..length].to_vec();
@@ -271,7 +271,7 @@ impl Run {
 
     fn damaged(&mut self) {
         for turn in 0..20_000 {
-            let length = [0, 1, 17, 18, 19, 22, 503, 600][self.random.below(8)];
+            let length = [0, 1, 17, 18, 19, 22, 1_027, 1_100][self.random.below(8)];
             let (code, data) = (self.random.code(), self.random.bytes(length));
             let mut message = self.model.message(code, &data);
             self.must(1, 255, &message, 0);

@@ -10,6 +10,7 @@ mod support;
 
 use pcp::{Code, Condition, Device, DevicePhase, Ending, Facts, Gateway, GatewayPhase, InstallCode, Refusal};
 use pcp::{DEVICE_RECORD, DEVICE_REPLY, GATEWAY_RECORD, GATEWAY_REPLY, VERSION_LENGTH};
+use pcp::{SIZE_MAX, SIZE_MIN, SIZE_PUBLIC};
 use reading::replay::hex;
 use std::collections::{BTreeMap, BTreeSet};
 use std::fmt::Debug;
@@ -363,11 +364,19 @@ fn carry_out(manual: &str) -> Result<usize, String> {
     }
 }
 
-/// The header's constants, with their values as they are written there.
-fn constants(header: &str) -> BTreeMap<&str, &str> {
-    let pairs = header.lines().filter_map(|line| line.trim().split_once(" = "));
-    let pairs = pairs.filter(|(name, _)| name.starts_with("PCP_"));
-    pairs.map(|(name, value)| (name, value.split([',', ' ']).next().unwrap_or(value))).collect()
+/// The header's constants, with their values as they are written there; a sum of an earlier one and a number is worked
+/// out.
+fn constants(header: &str) -> BTreeMap<&str, String> {
+    let mut constants: BTreeMap<&str, String> = BTreeMap::new();
+    for line in header.lines().filter(|line| line.trim().starts_with("PCP_")) {
+        let Some((name, rest)) = line.trim().split_once(" = ") else { continue };
+        let value = rest.split([',', '/']).next().unwrap_or(rest).trim();
+        let summed = value.split_once(" + ").and_then(|(earlier, more)| {
+            Some(value_in(constants.get(earlier)?)? + value_in(more)?).map(|sum| sum.to_string())
+        });
+        constants.insert(name, summed.unwrap_or_else(|| value.to_string()));
+    }
+    constants
 }
 
 /// The constants in the manual's tables: rows that begin with a value, then its names.
@@ -403,6 +412,9 @@ fn wrapped() -> BTreeMap<String, usize> {
     let lengths = [
         ("PCP_HANDLED", 0),
         ("PCP_RECOGNISED", 0),
+        ("PCP_SIZE_MIN", SIZE_MIN.into()),
+        ("PCP_SIZE_MAX", SIZE_MAX.into()),
+        ("PCP_SIZE_PUBLIC", SIZE_PUBLIC.into()),
         ("PCP_DEVICE_RECORD", DEVICE_RECORD),
         ("PCP_GATEWAY_RECORD", GATEWAY_RECORD),
         ("PCP_DEVICE_REPLY", DEVICE_REPLY),
@@ -436,7 +448,7 @@ fn compare_constants(manual: &str, header: &str) -> Result<usize, String> {
     let names: BTreeSet<&str> =
         constants.keys().chain(tabled.keys()).copied().chain(wrapped.keys().map(String::as_str)).collect();
     for name in &names {
-        let value = constants.get(name).copied();
+        let value = constants.get(name).map(String::as_str);
         if tabled.get(name).copied() != value {
             return Err(format!("{} differs from the header", name));
         }

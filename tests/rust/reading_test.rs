@@ -158,7 +158,7 @@ fn recognition(tally: &mut Tally) {
 }
 
 fn bad_data(tally: &mut Tally) {
-    for (size, number) in [(31, 8), (32, 0), (500, 0), (501, 8)] {
+    for (size, number) in [(31, 8), (32, 0), (500, 0), (501, 0), (1_024, 0), (1_025, 8)] {
         let message = any_announce(version("V1.0"), size, 1, 0);
         tally.same("size announced", number_of(&ToDevice::read(BOTH_FACTS, &message)), number);
         let (started, _) = Gateway::start(version("V1.0"), size, b"package", false);
@@ -188,7 +188,7 @@ fn bad_data(tally: &mut Tally) {
     }
     // The other side's readings, and results outside the lists.
     let long_announcement = format!("{}002000010000 00", V10);
-    let long_fragment = "00".repeat(3 + 501);
+    let long_fragment = "00".repeat(3 + 1_025);
     for (code, data) in [
         (19, "00"),
         (20, ""),
@@ -308,9 +308,9 @@ fn announcements(tally: &mut Tally) {
     for (condition, message, answer) in [
         (BUSY, announce(v10, 32, 3, 7), 0x01),
         (WEAK_SIGNAL, announce(v10, 32, 3, 7), 0x02),
-        (LOW_POWER, announce(v10, 500, 65_535, 7), 0x04),
+        (LOW_POWER, announce(v10, 1_024, 65_535, 7), 0x04),
         (INTERNAL, announce(v10, 32, 3, 7), 0x7F),
-        (READY, announce(version("V0.9"), 500, 65_535, 7), 0x03),
+        (READY, announce(version("V0.9"), 1_024, 65_535, 7), 0x03),
         (READY, announce(v10, 33, 3, 7), 0x05),
         (READY, announce(v10, 32, 3, 7), 0x00),
     ] {
@@ -367,7 +367,7 @@ fn fragments(tally: &mut Tally) {
     tally.same("out of phase", bench.step(&no_fragment(0x80, 0)), (9, 0));
     bench.receive(&announce(v10, 32, 3, check(&package)));
     tally.same("lowest missing", bench.next_message().reply[24..].to_vec(), vec![0, 0]);
-    tally.same("index", bench.step(&fragment(3, &[1; 500])), (10, 1));
+    tally.same("index", bench.step(&fragment(3, &[1; 1_024])), (10, 1));
     tally.same("length", bench.step(&fragment(1, &[1; 31])), (11, 1));
     tally.same("length", bench.step(&fragment(2, &[1; 33])), (11, 1));
     tally.same("not there", bench.step(&no_fragment(0x81, 0)), (0, 1));
@@ -516,7 +516,7 @@ fn broken_records(tally: &mut Tally) {
     ];
     let with_download: [Damage; 5] = [
         ("size", |device| device.size = 31),
-        ("size", |device| device.size = 501),
+        ("size", |device| device.size = 1_025),
         ("total", |device| device.total = 0),
         ("stored", |device| device.stored = device.total + 1),
         ("last", |device| device.last = device.size + 1),
@@ -544,7 +544,7 @@ fn broken_records(tally: &mut Tally) {
 /// A record in which every field may be out of its range, with memory that may be too short.
 fn any_bench(random: &mut Random) -> Bench {
     let total = random.pick(&[0, 1, 2, 3, 9]);
-    let size = random.pick(&[31, 32, 33, 500, 501]);
+    let size = random.pick(&[31, 32, 33, 1_024, 1_025]);
     let device = Device {
         phase: random.below(8) as u8,
         running: random.pick(&[version("V0.9"), version("V1.0"), [0; 16]]),
@@ -561,14 +561,14 @@ fn any_bench(random: &mut Random) -> Bench {
 }
 
 fn any_message(random: &mut Random) -> Vec<u8> {
-    let length = random.pick(&[1, 31, 32, 33, 500]);
+    let length = random.pick(&[1, 31, 32, 33, 1_024]);
     let index = random.below(4) as u16;
     match random.below(8) {
         0 => query(),
         1 => execute(),
         2 => download_result(random.pick(&[0x00, 0x80])),
         3 => upgrade_result(random.pick(&[0x00, 0x80])),
-        4 => announce(version("V1.0"), random.pick(&[32, 33, 500]), random.pick(&[1, 3, 9, 65_535]), 1),
+        4 => announce(version("V1.0"), random.pick(&[32, 33, 1_024]), random.pick(&[1, 3, 9, 65_535]), 1),
         5 => no_fragment(random.pick(&[0x80, 0x81]), index),
         6 => fragment(index, &random.bytes(length)),
         _ => random.bytes(length),
@@ -648,18 +648,18 @@ fn gateway_steps(tally: &mut Tally) {
 fn gateway_refusals(tally: &mut Tally) {
     let sound = Gateway::start(version("V1.0"), 32, &[7; 40], true).1;
     let ask = |gateway: &Gateway, package: &[u8], room| gateway.next_message(package, room).number;
-    tally.same("sound", ask(&sound, &[7; 40], 511), 0);
-    tally.same("buffer", ask(&Gateway::default(), &[], 510), 15);
-    tally.same("all zero", ask(&Gateway::default(), &[], 511), 29);
-    tally.same("phase", ask(&Gateway { phase: 5, ..sound.clone() }, &[], 511), 29);
-    tally.same("ending", ask(&Gateway { ending: 6, ..sound.clone() }, &[], 511), 29);
-    tally.same("ending", ask(&Gateway { ending: 5, ..sound.clone() }, &[7; 40], 511), 0);
-    tally.same("size", ask(&Gateway { size: 31, ..sound.clone() }, &[], 511), 29);
-    tally.same("length", ask(&Gateway { length: 0, ..sound.clone() }, &[], 511), 29);
-    tally.same("length", ask(&Gateway { length: 65_535 * 32 + 1, ..sound.clone() }, &[], 511), 29);
-    tally.same("package", ask(&sound, &[7; 39], 511), 14);
-    tally.same("nothing to send", ask(&Gateway { phase: 2, ..sound.clone() }, &[7; 40], 511), 9);
-    tally.same("nothing to send", ask(&Gateway { phase: 4, ..sound }, &[7; 40], 511), 9);
+    tally.same("sound", ask(&sound, &[7; 40], GATEWAY_ROOM), 0);
+    tally.same("buffer", ask(&Gateway::default(), &[], 1_034), 15);
+    tally.same("all zero", ask(&Gateway::default(), &[], 1_035), 29);
+    tally.same("phase", ask(&Gateway { phase: 5, ..sound.clone() }, &[], GATEWAY_ROOM), 29);
+    tally.same("ending", ask(&Gateway { ending: 6, ..sound.clone() }, &[], GATEWAY_ROOM), 29);
+    tally.same("ending", ask(&Gateway { ending: 5, ..sound.clone() }, &[7; 40], GATEWAY_ROOM), 0);
+    tally.same("size", ask(&Gateway { size: 31, ..sound.clone() }, &[], GATEWAY_ROOM), 29);
+    tally.same("length", ask(&Gateway { length: 0, ..sound.clone() }, &[], GATEWAY_ROOM), 29);
+    tally.same("length", ask(&Gateway { length: 65_535 * 32 + 1, ..sound.clone() }, &[], GATEWAY_ROOM), 29);
+    tally.same("package", ask(&sound, &[7; 39], GATEWAY_ROOM), 14);
+    tally.same("nothing to send", ask(&Gateway { phase: 2, ..sound.clone() }, &[7; 40], GATEWAY_ROOM), 9);
+    tally.same("nothing to send", ask(&Gateway { phase: 4, ..sound }, &[7; 40], GATEWAY_ROOM), 9);
 }
 
 /// 01's clean run.

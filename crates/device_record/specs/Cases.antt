@@ -49,11 +49,11 @@ kept =
     (device 0 (text 1) (text 2) 0 0 0 0 0 0x02, false) ∷
     -- Loading: each field at the ends of its range, and past them
     (device 1 (text 1) (text 2) 32 1 0 0 32 0x7F, true) ∷
-    (device 1 (text 1) (text 2) 500 65535 65535 65534 500 0x00, true) ∷
+    (device 1 (text 1) (text 2) 1024 65535 65535 65534 1024 0x00, true) ∷
     (device 1 noText (text 2) 32 9 0 3 0 0x00, false) ∷
     (device 1 (text 1) noText 32 9 0 3 0 0x00, false) ∷
     (device 1 (text 1) (text 2) 31 9 0 3 0 0x00, false) ∷
-    (device 1 (text 1) (text 2) 501 9 0 3 0 0x00, false) ∷
+    (device 1 (text 1) (text 2) 1025 9 0 3 0 0x00, false) ∷
     (device 1 (text 1) (text 2) 32 0 0 0 0 0x00, false) ∷
     (device 1 (text 1) (text 2) 32 65536 0 3 0 0x00, false) ∷
     (device 1 (text 1) (text 2) 32 9 0 9 0 0x00, false) ∷  -- count equal to total, in Loading

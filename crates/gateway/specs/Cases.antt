@@ -1,10 +1,11 @@
 -- The gateway's calls in computed cases: what each message brings in each phase, what is said when asked, and the refusals in their order. What
 -- a row says is written from 01, "The gateway" and "Numbers returned". Assumes nothing.
-use Prim.Native.Nat.{ℕ}
+use Prim.Native.Nat.{ℕ, _-_}
 use mathlib.Core.Bool.{Bool, true, false}
 use mathlib.Core.List.{List, [], _∷_, _++_}
 use lib.ListN.{take, drop, replicate}
 use Rattle.basis.specs.Cases.{Agree}
+use Rattle.message.specs.Limits.{gatewayRoom}
 use Rattle.message.specs.Cases.{text}
 use Rattle.message.specs.Messages.{GatewayMessage, queryReply, announceReply, fragmentRequest, downloadReport, executeReply, resultReport, found}
 use Rattle.codec.specs.Codec.{Sent}
@@ -98,18 +99,18 @@ declined = 0xFF ∷ 0xFE ∷ 0x01 ∷ 0x16 ∷ 0x14 ∷ 0x86 ∷ 0x00 ∷ 0x01 �
 -- phase, message; refused, moved on, ended, replied
 abbrev pub answers : List (ℕ × GatewayMessage × After)
 answers =
-    (1, queryReply 0x00 (text 1), after 9 0 (offers 1 0) (fives 511)) ∷
-    (0, queryReply 0x00 (text 1), after 0 0 (offers 1 0) (fives 511)) ∷
-    (0, queryReply 0x00 (text 2), after 0 0 (offers 4 1) (fives 511)) ∷
-    (1, announceReply 0x00, after 0 0 (offers 2 0) (fives 511)) ∷
-    (1, announceReply 0x03, after 0 0 (offers 4 2) (fives 511)) ∷
-    (2, downloadReport 0x00, after 0 9 (offers 3 0) (taken ++ fives 502)) ∷
-    (2, downloadReport 0x07, after 0 9 (offers 4 3) (taken ++ fives 502)) ∷
-    (3, executeReply 0x00, after 0 0 (offers 3 0) (fives 511)) ∷
-    (3, executeReply 0x04, after 0 0 (offers 4 4) (fives 511)) ∷
-    (3, resultReport 0x00 (text 2), after 0 9 (offers 4 0) (concluded ++ fives 502)) ∷
-    (3, resultReport 0x00 (text 1), after 0 9 (offers 4 5) (concluded ++ fives 502)) ∷
-    (0, downloadReport 0x00, after 0 9 (offers 0 0) (declined ++ fives 502)) ∷
+    (1, queryReply 0x00 (text 1), after 9 0 (offers 1 0) (fives gatewayRoom)) ∷
+    (0, queryReply 0x00 (text 1), after 0 0 (offers 1 0) (fives gatewayRoom)) ∷
+    (0, queryReply 0x00 (text 2), after 0 0 (offers 4 1) (fives gatewayRoom)) ∷
+    (1, announceReply 0x00, after 0 0 (offers 2 0) (fives gatewayRoom)) ∷
+    (1, announceReply 0x03, after 0 0 (offers 4 2) (fives gatewayRoom)) ∷
+    (2, downloadReport 0x00, after 0 9 (offers 3 0) (taken ++ fives (gatewayRoom - 9))) ∷
+    (2, downloadReport 0x07, after 0 9 (offers 4 3) (taken ++ fives (gatewayRoom - 9))) ∷
+    (3, executeReply 0x00, after 0 0 (offers 3 0) (fives gatewayRoom)) ∷
+    (3, executeReply 0x04, after 0 0 (offers 4 4) (fives gatewayRoom)) ∷
+    (3, resultReport 0x00 (text 2), after 0 9 (offers 4 0) (concluded ++ fives (gatewayRoom - 9))) ∷
+    (3, resultReport 0x00 (text 1), after 0 9 (offers 4 5) (concluded ++ fives (gatewayRoom - 9))) ∷
+    (0, downloadReport 0x00, after 0 9 (offers 0 0) (declined ++ fives (gatewayRoom - 9))) ∷
     []
 
 -- asked: phase; number, length, and the message's code and data
@@ -126,34 +127,34 @@ asks =
 -- supported, the message; number
 abbrev pub given : List (ℕ × Gateway × List ℕ × Bool × List ℕ × ℕ)
 given =
-    (510, offers 0 6, [], false, [], 15) ∷
-    (511, offers 0 6, [], false, [], 29) ∷
-    (511, offers 0 0, [], false, [], 14) ∷
-    (511, offers 0 0, zeros 32, false, [], 14) ∷
-    (511, offers 0 0, zeros 34, false, [], 14) ∷
-    (511, offers 0 0, content, false, [], 1) ∷
-    (511, offers 0 0, content, true, [], 3) ∷
+    (1034, offers 0 6, [], false, [], 15) ∷
+    (1035, offers 0 6, [], false, [], 29) ∷
+    (gatewayRoom, offers 0 0, [], false, [], 14) ∷
+    (gatewayRoom, offers 0 0, zeros 32, false, [], 14) ∷
+    (gatewayRoom, offers 0 0, zeros 34, false, [], 14) ∷
+    (gatewayRoom, offers 0 0, content, false, [], 1) ∷
+    (gatewayRoom, offers 0 0, content, true, [], 3) ∷
     -- 20 answer in Ask, with a result that it may not carry, and with 00
-    (511, offers 0 0, content, true, 0xFF ∷ 0xFE ∷ 0x01 ∷ 0x14 ∷ 0xB7 ∷ 0xAE ∷ 0x00 ∷ 0x01 ∷ 0x06 ∷ [], 8) ∷
-    (511, offers 0 0, content, true, 0xFF ∷ 0xFE ∷ 0x01 ∷ 0x14 ∷ 0xD7 ∷ 0x68 ∷ 0x00 ∷ 0x01 ∷ 0x00 ∷ [], 9) ∷
+    (gatewayRoom, offers 0 0, content, true, 0xFF ∷ 0xFE ∷ 0x01 ∷ 0x14 ∷ 0xB7 ∷ 0xAE ∷ 0x00 ∷ 0x01 ∷ 0x06 ∷ [], 8) ∷
+    (gatewayRoom, offers 0 0, content, true, 0xFF ∷ 0xFE ∷ 0x01 ∷ 0x14 ∷ 0xD7 ∷ 0x68 ∷ 0x00 ∷ 0x01 ∷ 0x00 ∷ [], 9) ∷
     []
 
 -- refusals of an ask in their order: length of the reply buffer, record, package; number
 abbrev pub asking : List (ℕ × Gateway × List ℕ × ℕ)
 asking =
-    (510, offers 2 6, [], 15) ∷
-    (511, offers 2 6, [], 29) ∷
-    (511, offers 2 0, [], 14) ∷
-    (511, offers 2 0, content, 9) ∷
+    (1034, offers 2 6, [], 15) ∷
+    (1035, offers 2 6, [], 29) ∷
+    (gatewayRoom, offers 2 0, [], 14) ∷
+    (gatewayRoom, offers 2 0, content, 9) ∷
     []
 
 abbrev pub answerOf : Sent → List ℕ
 answerOf s = s .number ∷ s .length ∷ codeAndData (s .length) (s .buffer)
 
 pub record GatewayCases : Type 0 where
-  pub step : Agree (λ (r : ℕ × GatewayMessage × List ℕ). outcome (handle (offers (r .0) 0) content (zeros 511) (found (r .1)))) (λ r. r .2) steps
-  pub answer : Agree (λ (r : ℕ × GatewayMessage × After). handle (offers (r .0) 0) content (fives 511) (found (r .1))) (λ r. r .2) answers
-  pub ask : Agree (λ (r : ℕ × List ℕ). answerOf (nextMessageOf (offers (r .0) 0) content (zeros 511))) (λ r. r .1) asks
+  pub step : Agree (λ (r : ℕ × GatewayMessage × List ℕ). outcome (handle (offers (r .0) 0) content (zeros gatewayRoom) (found (r .1)))) (λ r. r .2) steps
+  pub answer : Agree (λ (r : ℕ × GatewayMessage × After). handle (offers (r .0) 0) content (fives gatewayRoom) (found (r .1))) (λ r. r .2) answers
+  pub ask : Agree (λ (r : ℕ × List ℕ). answerOf (nextMessageOf (offers (r .0) 0) content (zeros gatewayRoom))) (λ r. r .1) asks
   pub give-order :
       Agree (λ (r : ℕ × Gateway × List ℕ × Bool × List ℕ × ℕ). (receiveOf (r .1) (r .2) (zeros (r .0)) (r .3) true (r .4)) .number) (λ r. r .5) given
   pub ask-order : Agree (λ (r : ℕ × Gateway × List ℕ × ℕ). (nextMessageOf (r .1) (r .2) (zeros (r .0))) .number) (λ r. r .3) asking

@@ -25,7 +25,7 @@ totals = (1, 32, 1) ∷ (32, 32, 1) ∷ (33, 32, 2) ∷ (64, 32, 2) ∷ (65, 32,
 
 -- length, size; neither empty nor longer than 65,535 fragments
 abbrev pub lengths : List (ℕ × ℕ × Bool)
-lengths = (0, 32, false) ∷ (1, 32, true) ∷ (2097120, 32, true) ∷ (2097121, 32, false) ∷ (32767500, 500, true) ∷ (32767501, 500, false) ∷ []
+lengths = (0, 32, false) ∷ (1, 32, true) ∷ (2097120, 32, true) ∷ (2097121, 32, false) ∷ (67107840, 1024, true) ∷ (67107841, 1024, false) ∷ []
 
 -- length, size; the total among the fields
 abbrev pub announced : List (ℕ × ℕ × ℕ)
@@ -47,13 +47,13 @@ starts =
 abbrev pub kept : List (Gateway × Bool)
 kept =
     (gateway 0 0 (text 2) 32 1 0 1, true) ∷
-    (gateway 4 5 (text 2) 500 65535 65535 32767500, true) ∷
+    (gateway 4 5 (text 2) 1024 65535 65535 67107840, true) ∷
     (gateway 5 0 (text 2) 32 2 0 33, false) ∷
     (gateway 4 6 (text 2) 32 2 0 33, false) ∷
     (gateway 0 0 noText 32 2 0 33, false) ∷
     (gateway 0 0 slashedText 32 2 0 33, false) ∷
     (gateway 0 0 (text 2) 31 2 0 33, false) ∷
-    (gateway 0 0 (text 2) 501 1 0 33, false) ∷
+    (gateway 0 0 (text 2) 1025 1 0 33, false) ∷
     (gateway 0 0 (text 2) 32 0 0 0, false) ∷
     (gateway 0 0 (text 2) 32 65536 0 2097121, false) ∷
     -- a total that is not that of the length

@@ -1,5 +1,5 @@
 -- 01, "Recognising a message", in computed cases: ranges, version text, the results that the table allows, the data of the twelve messages,
--- and the numbers 1 to 7 in their order. What a row says is written from 01 as 02 (2026-01, 2026-04) amends it. Assumes nothing.
+-- and the numbers 1 to 7 in their order. What a row says is written from 01 as 02 (2026-01, 2026-04, 2026-08) amends it. Assumes nothing.
 use Prim.Native.Nat.{ℕ, zero, suc, _+_}
 use mathlib.Core.Bool.{Bool, true, false}
 use mathlib.Core.List.{List, [], _∷_, _++_}
@@ -32,7 +32,7 @@ padded b n zeros = replicate n b ++ replicate zeros 0x00
 -- size, total, and any number as a WORD
 abbrev pub ranges : List (Bool × Bool)
 ranges =
-    (sizeOk 31, false) ∷ (sizeOk 32, true) ∷ (sizeOk 500, true) ∷ (sizeOk 501, false) ∷
+    (sizeOk 31, false) ∷ (sizeOk 32, true) ∷ (sizeOk 1024, true) ∷ (sizeOk 1025, false) ∷
     (totalOk 0, false) ∷ (totalOk 1, true) ∷ (totalOk 65535, true) ∷ (totalOk 65536, false) ∷
     (isWord 65535, true) ∷ (isWord 65536, false) ∷
     []
@@ -99,8 +99,8 @@ fields =
     (toDevice .valid (announce (record { version = text 1; size = 31; total = 1; code = 0 })), false) ∷
     (toDevice .valid (announce (record { version = text 1; size = 32; total = 0; code = 0 })), false) ∷
     (toDevice .valid (announce (record { version = text 1; size = 32; total = 1; code = 65536 })), false) ∷
-    (toDevice .valid (fragment 0x00 0 (replicate 500 0x41)), true) ∷
-    (toDevice .valid (fragment 0x00 0 (replicate 501 0x41)), false) ∷
+    (toDevice .valid (fragment 0x00 0 (replicate 1024 0x41)), true) ∷
+    (toDevice .valid (fragment 0x00 0 (replicate 1025 0x41)), false) ∷
     (toDevice .valid (fragment 0x80 65536 []), false) ∷
     (toGateway .valid (queryReply 0x00 noText), false) ∷
     (toGateway .valid (fragmentRequest (text 1) 65535), true) ∷

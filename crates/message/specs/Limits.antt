@@ -3,12 +3,12 @@ use Prim.Native.Nat.{ℕ, _+_}
 use mathlib.Core.Bool.{Bool, _&&_}
 use lib.Dec.{leb, ltb}
 
--- fragment size: 32 to 500
+-- fragment size: 32 to 1,024 (02, 2026-08)
 abbrev pub sizeMin : ℕ
 sizeMin = 32
 
 abbrev pub sizeMax : ℕ
-sizeMax = 500
+sizeMax = 1024
 
 unfoldable pub sizeOk : ℕ → Bool
 sizeOk size = leb sizeMin size && leb size sizeMax

@@ -40,7 +40,7 @@ pub data DeviceMessage : Type 0 where
   execute : DeviceMessage
   resultReply : (result : ℕ) → DeviceMessage
 
--- result 00 carries 1 to 500 data bytes; 80 and 81 carry none
+-- result 00 carries at least 1 and at most a full fragment's bytes; 80 and 81 carry none
 unfoldable pub fragmentOk : (result : ℕ) → List ℕ → Bool
 fragmentOk result bytes =
     pick (eqb result 0x00) (leb 1 (length bytes) && leb (length bytes) sizeMax) (oneOf result (0x80 ∷ 0x81 ∷ []) && eqb (length bytes) 0)

@@ -35,7 +35,7 @@ impl Fields {
     // The limits of the size of a fragment, and of the number of fragments.
     pub const SIZE_MIN: u16 = 32;
 
-    pub const SIZE_MAX: u16 = 500;
+    pub const SIZE_MAX: u16 = 1024;
 
     pub const TOTAL_MAX: u16 = 65535;
 }

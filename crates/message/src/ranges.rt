@@ -60,7 +60,7 @@ fn report_reply_ok(result: u8) -> bool
     basis::one_of(result, &codes)
 }
 
-// Fragment result 00 carries 1 to 500 data bytes; 80 and 81 carry none.
+// Fragment result 00 carries at least 1 and at most a full fragment's bytes; 80 and 81 carry none.
 fn fragment_ok(result: u8, content: &[u8]) -> bool
     ensures { λ r. ⌜ r ≡ fragmentOk result (now (content .entry)) ⌝ }
 {

@@ -1,4 +1,4 @@
--- The published values, as one table under one claim (01, "Promises with one reading"). Assumes nothing.
+-- The published values, as one table under one claim (01, "Promises with one reading"; sizes by 02, 2026-08). Assumes nothing.
 use Prim.Native.Nat.{ℕ, zero, suc, _/_, _%_, _^_}
 use mathlib.Core.Path.{_≡_}
 use mathlib.Core.List.{List, [], _∷_, map}
@@ -42,8 +42,8 @@ rows =
     (entry 255, 0x1EF0) ∷
     (size-ok 31, 0) ∷
     (size-ok 32, 1) ∷
-    (size-ok 500, 1) ∷
-    (size-ok 501, 0) ∷
+    (size-ok 1024, 1) ∷
+    (size-ok 1025, 0) ∷
     []
 
 -- every row gives what is printed

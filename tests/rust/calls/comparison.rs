@@ -26,6 +26,7 @@ pub struct Comparison {
 /// A call that all sides answered in the same way.
 pub struct Made<'a> {
     pub call: Call,
+    pub lent: Lent,
     pub result: u32,
     pub before: &'a Memory,
     pub after: &'a Memory,
@@ -48,7 +49,7 @@ impl Comparison {
     pub fn step(&mut self, run: &mut Run, observe: impl FnOnce(Made)) -> Result<(), String> {
         let (call, lent) = run.next_call();
         let result = self.make(call, lent, &mut run.memory)?;
-        observe(Made { call, result, before: &self.before, after: &run.memory });
+        observe(Made { call, lent, result, before: &self.before, after: &run.memory });
         run.called(call, result);
         Ok(())
     }

@@ -1,6 +1,7 @@
 //! What the calls have brought about, counted; and all that they have to.
 
 use super::comparison::Made;
+use super::messages::SIZE_EDGES;
 use super::run::Ends;
 use super::texts::{Carrier, Text, INSIDE, OUTSIDE};
 use super::Call;
@@ -9,8 +10,8 @@ use crate::reading::device::{Device, ACKED, FAILED, IDLE, INSTALLING, LOADED, LO
 use crate::reading::gateway::{Gateway, ASK, ENDED, OFFER, RUN, SERVE};
 use crate::reading::layout::SHORT_RECORD;
 use crate::reading::message::{
-    ANNOUNCE, ANNOUNCE_ANSWERS, DOWNLOAD_RESULT, EXECUTE, FRAGMENT, HEADER, QUERY, UPGRADE_RESULT,
-    UPGRADE_RESULTS,
+    ANNOUNCE, ANNOUNCE_ANSWERS, DOWNLOAD_RESULT, EXECUTE, FRAGMENT, GATEWAY_ROOM, HEADER, QUERY, SIZES,
+    UPGRADE_RESULT, UPGRADE_RESULTS,
 };
 use crate::reading::number;
 use std::collections::{BTreeMap, BTreeSet};
@@ -45,6 +46,13 @@ const RESERVED_AT_DEVICE: &str = "reserved bits at the device";
 const RESERVED_AT_GATEWAY: &str = "reserved bits at the gateway";
 /// Version bytes refused with 4, by the byte and whether the check is right.
 const VERSION_REFUSED: &str = "version byte refused";
+/// Sizes by their place in `SIZE_EDGES`, and the number: announced, and at a start.
+const SIZE_ANNOUNCED: &str = "size announced";
+const SIZE_STARTED: &str = "size at the start";
+/// The gateway's reply buffers: 0 one byte too short, 1 just long enough; and whether refused with 15.
+const GATEWAY_BUFFER: &str = "gateway reply buffer";
+/// Last fragments stored, of 1 byte, of one less than the size, and of the size.
+const LAST_STORED: &str = "last fragment stored";
 /// Steps, by the phases before and after.
 const DEVICE_STEP: &str = "device step";
 const GATEWAY_STEP: &str = "gateway step";
@@ -94,10 +102,16 @@ impl Coverage {
                 self.count_version_byte(RESERVED_RECOGNISED, number, &made.before.input);
             }
             Call::DeviceNew => self.count((DEVICE_NEW, number, 0)),
-            Call::GatewayStart { .. } => self.count((GATEWAY_START, number, 0)),
+            Call::GatewayStart { size, .. } => {
+                self.count((GATEWAY_START, number, 0));
+                self.count_size(SIZE_STARTED, size, number);
+            }
             Call::DeviceReceive { .. } => {
                 self.count((DEVICE_RECEIVE, number, 0));
                 self.count_version_byte(RESERVED_AT_DEVICE, number, &made.before.input);
+                if let Some(size) = announced_size(&made.before.input) {
+                    self.count_size(SIZE_ANNOUNCED, size, number);
+                }
                 self.count_message([DEVICE_HANDLED, DEVICE_NO_USE], number, &made, before.device.phase);
                 sent(DEVICE_REPLY).into_iter().for_each(|event| self.count(event));
                 if counts_steps {
@@ -121,6 +135,7 @@ impl Coverage {
             Call::GatewayReceive { .. } => {
                 self.count((GATEWAY_RECEIVE, number, 0));
                 self.count_version_byte(RESERVED_AT_GATEWAY, number, &made.before.input);
+                self.count_buffer(made.lent.reply, number);
                 self.count_message([GATEWAY_HANDLED, GATEWAY_NO_USE], number, &made, before.gateway.phase);
                 sent(GATEWAY_REPLY).into_iter().for_each(|event| self.count(event));
                 if counts_steps {
@@ -129,6 +144,7 @@ impl Coverage {
             }
             Call::GatewayNextMessage => {
                 self.count((GATEWAY_NEXT, number, 0));
+                self.count_buffer(made.lent.reply, number);
                 sent(GATEWAY_MESSAGE).into_iter().for_each(|event| self.count(event));
             }
         }
@@ -152,8 +168,26 @@ impl Coverage {
         }
     }
 
+    fn count_size(&mut self, kind: &'static str, size: u16, number: u8) {
+        if let Some(place) = SIZE_EDGES.iter().position(|edge| *edge == size) {
+            self.count((kind, place as u8, number));
+        }
+    }
+
+    fn count_buffer(&mut self, length: usize, number: u8) {
+        if let Some(more @ 0..=1) = (length + 1).checked_sub(GATEWAY_ROOM) {
+            self.count((GATEWAY_BUFFER, more as u8, u8::from(number == number::REPLY_BUFFER)));
+        }
+    }
+
     fn count_device_step(&mut self, before: &Device, after: &Device) {
         self.count((DEVICE_STEP, before.phase, after.phase));
+        if before.phase == LOADING && before.last == 0 && after.last != 0 {
+            let lengths = [1, after.size - 1, after.size];
+            if let Some(place) = lengths.iter().position(|length| *length == after.last) {
+                self.count((LAST_STORED, place as u8, 0));
+            }
+        }
         let (coded, short) = (u8::from(after.code != 0), u8::from(after.last < after.size));
         match (before.phase, after.phase) {
             (LOADING, LOADED) => self.count((LOADED_WITH, coded, short)),
@@ -196,6 +230,12 @@ impl Coverage {
     }
 }
 
+/// The size in an announcement.
+fn announced_size(message: &[u8]) -> Option<u16> {
+    let size = message.get(HEADER + 16..HEADER + 18)?;
+    Some(u16::from_be_bytes([size[0], size[1]])).filter(|_| message[3] == ANNOUNCE)
+}
+
 fn has_right_check(message: &[u8]) -> bool {
     message.get(4..6) == Some(&message_check(message).to_be_bytes()[..])
 }
@@ -211,6 +251,7 @@ fn wanted() -> BTreeSet<Event> {
     events.extend(wanted_numbers());
     events.extend(wanted_version_bytes());
     events.extend(wanted_texts());
+    events.extend(wanted_sizes());
     events.extend(wanted_messages());
     events.extend(wanted_steps());
     events.extend(wanted_sendings());
@@ -249,6 +290,19 @@ fn wanted_version_bytes() -> Vec<Event> {
     }
     for version in [0x00, 0x02, 0x10, 0xF2] {
         events.extend(with_each(VERSION_REFUSED, version, &[0, 1]));
+    }
+    events
+}
+
+/// Each size at an edge, taken or refused; the gateway's reply buffer one byte too short, and just long enough; last
+/// fragments of each length that matters.
+fn wanted_sizes() -> Vec<Event> {
+    let mut events = one_each(LAST_STORED, &[0, 1, 2]);
+    events.extend([(GATEWAY_BUFFER, 0, 1), (GATEWAY_BUFFER, 1, 0)]);
+    for (place, size) in SIZE_EDGES.iter().enumerate() {
+        let is_size = SIZES.contains(size);
+        events.push((SIZE_ANNOUNCED, place as u8, if is_size { number::HANDLED } else { number::DATA }));
+        events.push((SIZE_STARTED, place as u8, if is_size { number::HANDLED } else { number::FRAGMENT_SIZE }));
     }
     events
 }

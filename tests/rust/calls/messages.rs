@@ -16,6 +16,9 @@ use crate::support::version;
 /// Few, so that both ends often have the same one.
 const TEXTS: [&str; 4] = ["V0.9", "V1.0", "V1.1", "sixteen_bytes-OK"];
 
+/// Sizes at the edges of what is allowed, about the public platforms' most, and some further ones.
+pub const SIZE_EDGES: [u16; 11] = [0, 31, 32, 33, 499, 500, 501, 1_023, 1_024, 1_025, 0xFFFF];
+
 /// What a byte of a text is changed to: such as the text may hold, and such as it may not.
 pub const TEXT_BYTES: [u8; 8] = [0x00, 0x20, 0x2E, 0x3A, 0x41, 0x60, 0x7A, 0xFF];
 
@@ -81,7 +84,7 @@ pub fn any_to_gateway(random: &mut Random, ends: &Ends) -> Vec<u8> {
 
 /// Data of about a right length, for about a right code.
 fn any_data(random: &mut Random) -> Vec<u8> {
-    let length = random.pick(&[0, 1, 2, 3, 4, 16, 17, 18, 19, 22, 23, 503, 504, 700]);
+    let length = random.pick(&[0, 1, 2, 3, 4, 16, 17, 18, 19, 22, 23, 1_027, 1_028, 1_100]);
     let code = random.between(18..=25) as u8;
     let mut data = if random.once_in(2) { vec![0x30; length] } else { filler(random, length) };
     if let Some(first) = data.first_mut() {
@@ -122,7 +125,7 @@ fn changed_offer(random: &mut Random, ends: &Ends) -> Announcement {
         1 => offer.version = ends.device.running,
         2 => offer.version[random.below(16)] = random.pick(&TEXT_BYTES),
         3 => offer.size = near(random, offer.size),
-        4 => offer.size = random.pick(&[0, 31, 32, 33, 499, 500, 501, 0xFFFF]),
+        4 => offer.size = random.pick(&SIZE_EDGES),
         5 => offer.total = near(random, offer.total),
         6 => offer.total = random.pick(&[0, 1, 255, 256, 0xFFFF]),
         7 => offer.total = fitting + random.below(2) as u16,
@@ -152,7 +155,7 @@ fn missing_fragment(random: &mut Random, ends: &Ends) -> Vec<u8> {
 
 /// The data that the device expects; the last fragment's is as long as the package's.
 fn data_for(random: &mut Random, ends: &Ends, index: u16) -> Vec<u8> {
-    let size = usize::from(ends.device.size).clamp(1, 500);
+    let size = usize::from(ends.device.size.clamp(1, *SIZES.end()));
     if !ends.is_same_download() || index >= ends.device.total {
         return filler(random, size);
     }
@@ -173,7 +176,7 @@ fn changed_fragment(random: &mut Random, ends: &Ends) -> Vec<u8> {
         0 => drop(data.pop()),
         1 => data.push(random.byte()),
         2 => data.truncate(1),
-        3 => data = filler(random, usize::from(ends.device.size.min(600))),
+        3 => data = filler(random, usize::from(ends.device.size.min(1_100))),
         4 => data.truncate(random.below(data.len() + 1)),
         _ => {}
     }

@@ -2,7 +2,8 @@
 //! What is drawn decides everything, so that a seed, or given bytes, repeat a run.
 
 use super::messages::{
-    any_to_device, any_to_gateway, filler, near, next_to_device, next_to_gateway, some_version, TEXT_BYTES,
+    any_to_device, any_to_gateway, filler, near, next_to_device, next_to_gateway, some_version, SIZE_EDGES,
+    TEXT_BYTES,
 };
 use super::{Call, Lent, Memory};
 use crate::reading::device::{Device, CONDITIONS, INSTALLING, LOADING, READY, REPORTING};
@@ -101,7 +102,7 @@ impl Run {
     pub fn new(mut random: Random, scale: Scale) -> Run {
         let (size, total, calls) = match scale {
             Scale::Small => (some_size(&mut random), some_total(&mut random), random.between(20..=400)),
-            Scale::Large => (500, random.between(130..=140), random.between(20..=300)),
+            Scale::Large => (1_024, random.between(65..=70), random.between(20..=300)),
             Scale::Most => (32, 65_535 + random.below(2), 40),
         };
         let last = if random.once_in(2) { size } else { random.between(1..=size) };
@@ -229,7 +230,7 @@ impl Run {
             self.memory.package[at] ^= 1 + self.random.below(255) as u8;
         }
         let size = match self.random.below(12) {
-            0 => self.random.pick(&[0, 31, 32, 33, 499, 500, 501, 0xFFFF]),
+            0 => self.random.pick(&SIZE_EDGES),
             1 => near(&mut self.random, self.size),
             _ => self.size,
         };
@@ -390,8 +391,8 @@ impl Run {
 }
 
 fn some_size(random: &mut Random) -> usize {
-    let any = random.between(32..=500);
-    random.pick(&[32, 33, 40, 64, 100, 500, any])
+    let any = random.between((*SIZES.start()).into()..=(*SIZES.end()).into());
+    random.pick(&[32, 33, 40, 64, 100, 1_024, any])
 }
 
 fn some_total(random: &mut Random) -> usize {
@@ -428,14 +429,14 @@ fn change_field(random: &mut Random, widths: &[usize], record: &mut [u8]) {
         [ref mut byte] => *byte = random.pick(&[0, 1, 2, 3, 4, 5, 6, 7, 9, 10, 126, 127, 128, 255]),
         [ref mut high, ref mut low] => {
             let value = near(random, u16::from_be_bytes([*high, *low]));
-            let edge = random.pick(&[0, 1, 31, 32, 499, 500, 501, 0x8000, 0xFFFF]);
+            let edge = random.pick(&SIZE_EDGES);
             [*high, *low] = random.pick(&[value, edge]).to_be_bytes();
         }
         _ if field.len() == 8 => {
             let value = u64::from_be_bytes(field.try_into().expect("8 bytes"));
             let longest = LONGEST_PACKAGE as u64;
             let edges =
-                [0, 1, value ^ 1, value.wrapping_add(1 << 32), longest, longest + 1, 500 * 65_535, u64::MAX];
+                [0, 1, value ^ 1, value.wrapping_add(1 << 32), longest, longest + 1, 1_024 * 65_535, u64::MAX];
             field.copy_from_slice(&random.pick(&edges).to_be_bytes());
         }
         _ => field[random.below(16)] = random.pick(&TEXT_BYTES),

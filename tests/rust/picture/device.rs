@@ -129,7 +129,7 @@ fn offers() -> Vec<Announcement> {
         offer("V1.0", TOTAL, code ^ 1),
         offer("V1.0", TOTAL, 0),
         offer("V0.9", TOTAL, code),
-        Announcement { size: 500, ..offer("V1.0", TOTAL, code) },
+        Announcement { size: 2 * SIZE, ..offer("V1.0", TOTAL, code) },
         offer("V1.0", 10, code),
     ]
 }

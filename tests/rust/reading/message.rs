@@ -15,10 +15,10 @@ pub const UPGRADE_RESULT: u8 = 24;
 pub const HEADER: usize = 8;
 /// The shortest reply buffer at the device, and at the gateway (number 15).
 pub const DEVICE_ROOM: usize = 26;
-pub const GATEWAY_ROOM: usize = 511;
+pub const GATEWAY_ROOM: usize = 1_035;
 
-/// Fragment sizes that may be announced.
-pub const SIZES: RangeInclusive<u16> = 32..=500;
+/// Fragment sizes that may be announced (02, 2026-08).
+pub const SIZES: RangeInclusive<u16> = 32..=1_024;
 
 /// The result bytes of the table, by message.
 pub const ANNOUNCE_ANSWERS: [u8; 8] = [0x00, 0x01, 0x02, 0x03, 0x04, 0x05, 0x09, 0x7F];
@@ -143,7 +143,7 @@ impl<'a> ToDevice<'a> {
         match self {
             ToDevice::Query | ToDevice::Execute => true,
             ToDevice::Announce(announcement) => announcement.fits(),
-            ToDevice::Fragment { result: 0x00, data, .. } => (1..=500).contains(&data.len()),
+            ToDevice::Fragment { result: 0x00, data, .. } => (1..=1_024).contains(&data.len()),
             ToDevice::Fragment { result: 0x80 | 0x81, data, .. } => data.is_empty(),
             ToDevice::Fragment { .. } => false,
             ToDevice::DownloadResult { result } | ToDevice::UpgradeResult { result } => {

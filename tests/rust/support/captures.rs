@@ -1,12 +1,14 @@
 //! Captures for the samples and for the checks of the replay program.
 
-use super::messages::{announce, execute, fragment, query, with_reserved_bits, with_version_byte};
+use super::messages::{
+    announce, any_announce, execute, fragment, query, with_reserved_bits, with_version_byte,
+};
 use super::random::Random;
 use super::version;
 use crate::reading::capture::{FROM_DEVICE, TOWARD_DEVICE};
 use crate::reading::device::{is_stored, Device, READY};
 use crate::reading::gateway::Gateway;
-use crate::reading::message::{encode, ToGateway, BOTH_FACTS, DEVICE_ROOM, GATEWAY_ROOM};
+use crate::reading::message::{encode, ToGateway, BOTH_FACTS, DEVICE_ROOM, GATEWAY_ROOM, SIZES};
 use crate::reading::replay::{IMAGE_LENGTH, MAP_LENGTH, RUNNING};
 
 /// Fixes what gets lost, repeated and reordered in the samples.
@@ -179,6 +181,25 @@ pub fn full_download(seed: u64) -> Vec<u8> {
     session.download(&mut server, 12);
     session.report(&mut server);
     session.exchange(&mut server);
+    session.exchange(&mut server);
+    assert_eq!(session.device.phase, 5, "the device installs");
+    assert_eq!(session.image[..package.len()], package);
+    session.capture.bytes
+}
+
+/// Sixteen fragments of the most bytes, which fill replay's image but for the last byte, up to the installation; and before
+/// them an announcement with one byte more in each, which is refused.
+pub fn large_fragments() -> Vec<u8> {
+    let package = package(5, IMAGE_LENGTH - 1);
+    let mut server = Server::new("V1.0", *SIZES.end(), &package, true);
+    let mut session = Session::new(SAMPLE_SEED);
+    session.exchange(&mut server);
+    session.deliver(&any_announce(version("V1.0"), SIZES.end() + 1, 1, 0));
+    session.exchange(&mut server);
+    for (index, data) in package.chunks(usize::from(*SIZES.end())).enumerate() {
+        session.deliver(&fragment(index as u16, data));
+    }
+    session.report(&mut server);
     session.exchange(&mut server);
     assert_eq!(session.device.phase, 5, "the device installs");
     assert_eq!(session.image[..package.len()], package);

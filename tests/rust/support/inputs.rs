@@ -10,8 +10,11 @@ use crate::reading::capture::{FROM_DEVICE, TOWARD_DEVICE};
 use crate::reading::check::check;
 use crate::reading::device::{FAILED, IDLE, INSTALLING, LOADED, LOADING};
 use crate::reading::message::{encode, rounded_up, ToGateway, Version, DEVICE_ROOM};
-use crate::reading::replay::{hex, replay, INPUT_LIMIT};
+use crate::reading::replay::{hex, replay, IMAGE_LENGTH, INPUT_LIMIT, MAP_LENGTH};
 use std::collections::BTreeSet;
+
+/// As many as replay's map has bits.
+const FRAGMENTS: u16 = (MAP_LENGTH * 8) as u16;
 
 const RANDOM_CAPTURES: usize = 1_200;
 const RANDOM_DOWNLOADS: usize = 120;
@@ -171,7 +174,7 @@ fn add_record_lengths(cases: &mut Cases) {
                 (256, 256),
                 (256, 1),
                 (257, 257),
-                (512, 2),
+                (1_024, 2),
                 (30_000, 29_999),
                 (30_000, 30_000),
                 (32_675, 32_675),
@@ -258,21 +261,23 @@ fn valid_messages() -> Vec<Vec<u8>> {
         (target(), 33, 3, code),
         (version("V1.0-"), 32, 3, code),
         (old, 32, 3, code),
-        (old, 500, 65_535, code),
+        (old, 1_024, 65_535, code),
         (target(), 500, 32, 0),
         (target(), 500, 33, 0),
-        (target(), 32, 512, 0),
-        (target(), 32, 513, 0),
+        (target(), 1_024, 16, 0),
+        (target(), 1_024, 17, 0),
+        (target(), 32, FRAGMENTS, 0),
+        (target(), 32, FRAGMENTS + 1, 0),
         (target(), 256, 64, 0),
         (target(), 256, 65, 0),
         (target(), 145, 113, 0),
         (target(), 256, 256, 0),
-        (target(), 500, 65_535, 0),
+        (target(), 1_024, 65_535, 0),
     ] {
         all.push(announce(version, size, total, code));
     }
     for index in [0, 2, 3, 256, 65_535] {
-        for length in [1, 9, 31, 32, 33, 500] {
+        for length in [1, 9, 31, 32, 33, 500, 1_024] {
             all.push(fragment(index, &vec![0x5A; length]));
         }
         all.push(no_fragment(0x80, index));
@@ -337,7 +342,9 @@ fn add_messages_by_phase(cases: &mut Cases) {
 
 /// Downloads that fill image and map to the last byte, in rising and falling order.
 fn add_whole_images(cases: &mut Cases) {
-    for (size, length) in [(32, 512 * 32), (32, 511 * 32 + 1), (500, 16_000), (64, 16_384), (493, 33 * 493)] {
+    for (size, length) in
+        [(32, IMAGE_LENGTH), (32, IMAGE_LENGTH - 31), (500, 16_000), (64, IMAGE_LENGTH), (1_024, IMAGE_LENGTH), (1_023, 16 * 1_023)]
+    {
         for falling in [false, true] {
             let package = captures::package(8, length);
             let total = rounded_up(length, size) as u16;
@@ -357,7 +364,7 @@ fn add_whole_images(cases: &mut Cases) {
 /// Whole downloads over a bad link, and the March case, with random sizes.
 fn add_downloads(cases: &mut Cases, random: &mut Random) {
     for _ in 0..RANDOM_DOWNLOADS {
-        let size = random.between(32..=500) as u16;
+        let size = random.between(32..=1_024) as u16;
         let total = random.between(1..=(16_384 / usize::from(size)).min(14));
         let length = (total - 1) * usize::from(size) + random.between(1..=size.into());
         let seed = random.draw();
@@ -429,7 +436,7 @@ impl Package {
 }
 
 fn small_random_package(random: &mut Random) -> Package {
-    let size = random.pick(&[32, 33, 40, 64, 100, 499, 500]);
+    let size = random.pick(&[32, 33, 40, 64, 100, 500, 1_023, 1_024]);
     let total = random.between(1..=10);
     let length = (total - 1) * size + random.between(1..=size);
     Package { size: size as u16, bytes: random.bytes(length) }
@@ -458,7 +465,7 @@ fn unsuited_message(random: &mut Random, package: &Package) -> Vec<u8> {
         4 => upgrade_result(random.pick(&[0x00, 0x80])),
         5 => no_fragment(random.pick(&[0x80, 0x81, 0x81]), random.word()),
         6 => {
-            let length = random.between(1..=500);
+            let length = random.between(1..=1_024);
             fragment(random.below(12) as u16, &random.bytes(length))
         }
         _ => {
@@ -473,7 +480,7 @@ fn random_announcement(random: &mut Random, package: &Package) -> Vec<u8> {
     let code = random.pick(&[code, code, code, 0, code ^ 0x8000]);
     let text = random.pick(&["V1.0", "V1.0", "V1.0", "V1.0", "V0.9", "V0.9.1"]);
     match random.below(8) {
-        0 => announce(version(text), random.between(32..=500) as u16, random.between(1..=60) as u16, code),
+        0 => announce(version(text), random.between(32..=1_024) as u16, random.between(1..=60) as u16, code),
         1 => announce(version(text), package.size, package.total() + 1, code),
         _ => announce(version(text), package.size, package.total(), code),
     }

@@ -82,7 +82,7 @@ pub fn other_data_lengths(message: &[u8]) -> Vec<Vec<u8>> {
 
 /// Fragments of the least and the most data, and of more.
 pub fn other_fragments() -> Vec<Vec<u8>> {
-    let lengths = [0, 1, 499, 500, 501, 502, 512, 513, 1_000];
+    let lengths = [0, 1, 499, 500, 501, 1_023, 1_024, 1_025, 1_026, 2_000];
     lengths.iter().map(|length| encode(FRAGMENT, &[&[0, 0, 0][..], &vec![0x5A; *length]].concat())).collect()
 }
 
@@ -132,7 +132,7 @@ pub fn other_results() -> Vec<Vec<u8>> {
 pub fn other_announcements() -> Vec<Vec<u8>> {
     let text = super::version("V7.7");
     let mut all = Vec::new();
-    for size in [0, 1, 31, 32, 33, 499, 500, 501, 0x2000, 0x01F4, 0xF401, 0xFFFF] {
+    for size in [0, 1, 31, 32, 33, 499, 500, 501, 1_023, 1_024, 1_025, 0x2000, 0x0004, 0xF401, 0xFFFF] {
         for total in [0, 1, 2, 0x0100, 0xFFFF] {
             all.push(any_announce(text, size, total, 0));
         }
@@ -203,7 +203,7 @@ pub fn damaged(random: &mut Random, message: &[u8]) -> Vec<u8> {
 }
 
 fn noise(random: &mut Random) -> Vec<u8> {
-    let limit = random.pick(&[4, 30, 600]);
+    let limit = random.pick(&[4, 30, 1_200]);
     let length = random.below(limit);
     random.bytes(length)
 }
