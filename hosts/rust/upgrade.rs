@@ -457,7 +457,8 @@ impl<'a> GatewayHost<'a> {
             return Ok(false);
         }
         if self.gateway.phase() == GatewayPhase::Serve && self.requests == 0 {
-            self.size = if self.size == self.first_size { other_size(self.first_size) } else { self.first_size };
+            self.size =
+                if self.size == self.first_size { other_size(self.first_size) } else { self.first_size };
         }
         self.gateway = start(self.size, self.package)?;
         self.ask_at = now;

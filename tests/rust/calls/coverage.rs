@@ -302,7 +302,11 @@ fn wanted_sizes() -> Vec<Event> {
     for (place, size) in SIZE_EDGES.iter().enumerate() {
         let is_size = SIZES.contains(size);
         events.push((SIZE_ANNOUNCED, place as u8, if is_size { number::HANDLED } else { number::DATA }));
-        events.push((SIZE_STARTED, place as u8, if is_size { number::HANDLED } else { number::FRAGMENT_SIZE }));
+        events.push((
+            SIZE_STARTED,
+            place as u8,
+            if is_size { number::HANDLED } else { number::FRAGMENT_SIZE },
+        ));
     }
     events
 }

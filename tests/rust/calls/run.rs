@@ -435,8 +435,16 @@ fn change_field(random: &mut Random, widths: &[usize], record: &mut [u8]) {
         _ if field.len() == 8 => {
             let value = u64::from_be_bytes(field.try_into().expect("8 bytes"));
             let longest = LONGEST_PACKAGE as u64;
-            let edges =
-                [0, 1, value ^ 1, value.wrapping_add(1 << 32), longest, longest + 1, 1_024 * 65_535, u64::MAX];
+            let edges = [
+                0,
+                1,
+                value ^ 1,
+                value.wrapping_add(1 << 32),
+                longest,
+                longest + 1,
+                1_024 * 65_535,
+                u64::MAX,
+            ];
             field.copy_from_slice(&random.pick(&edges).to_be_bytes());
         }
         _ => field[random.below(16)] = random.pick(&TEXT_BYTES),

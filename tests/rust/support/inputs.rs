@@ -342,9 +342,14 @@ fn add_messages_by_phase(cases: &mut Cases) {
 
 /// Downloads that fill image and map to the last byte, in rising and falling order.
 fn add_whole_images(cases: &mut Cases) {
-    for (size, length) in
-        [(32, IMAGE_LENGTH), (32, IMAGE_LENGTH - 31), (500, 16_000), (64, IMAGE_LENGTH), (1_024, IMAGE_LENGTH), (1_023, 16 * 1_023)]
-    {
+    for (size, length) in [
+        (32, IMAGE_LENGTH),
+        (32, IMAGE_LENGTH - 31),
+        (500, 16_000),
+        (64, IMAGE_LENGTH),
+        (1_024, IMAGE_LENGTH),
+        (1_023, 16 * 1_023),
+    ] {
         for falling in [false, true] {
             let package = captures::package(8, length);
             let total = rounded_up(length, size) as u16;
