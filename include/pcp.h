@@ -1006,9 +1006,10 @@ static inline uint8_t pcp_device_install_finished(uint8_t *record,
 
 /* Makes the record of a gateway that is to bring one device to this version
    with this package, in fragments of size bytes (PCP_SIZE_MIN to PCP_SIZE_MAX).
-   The version text is as for pcp_device_new.  With checked, the package's check is announced as
-   its code: the device then tests the whole image, and can resume.  Otherwise
-   (or if that check happens to be 0) the code is 0: no test, no resume.
+   The version text is as for pcp_device_new.  With checked, the package's check
+   is announced as its code: the device then tests the whole image, and can
+   resume.  Otherwise (or if that check happens to be 0) the code is 0: no test,
+   no resume.
    Numbers: 64, 17, 18, 19. */
 static inline uint8_t pcp_gateway_start(uint8_t *record, size_t record_length,
                                         const void *version,

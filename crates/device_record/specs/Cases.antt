@@ -1,5 +1,5 @@
 -- The device's record in computed cases: the phases that hold a download, the conditions, the making (17), and the tests of 29 and 14.
--- What a row says is written from 01, "The head" and "Numbers returned", as 02 (2026-04) amends it. Assumes nothing.
+-- What a row says is written from 01, "The head" and "Numbers returned", as 02 (2026-04, 2026-08) amends it. Assumes nothing.
 use Prim.Native.Nat.{ℕ}
 use mathlib.Core.Bool.{Bool, true, false}
 use mathlib.Core.List.{List, [], _∷_}

@@ -1,5 +1,5 @@
 -- The gateway's calls in computed cases: what each message brings in each phase, what is said when asked, and the refusals in their order. What
--- a row says is written from 01, "The gateway" and "Numbers returned". Assumes nothing.
+-- a row says is written from 01, "The gateway" and "Numbers returned", as 02 (2026-08) amends it. Assumes nothing.
 use Prim.Native.Nat.{ℕ, _-_}
 use mathlib.Core.Bool.{Bool, true, false}
 use mathlib.Core.List.{List, [], _∷_, _++_}

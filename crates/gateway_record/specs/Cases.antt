@@ -1,5 +1,5 @@
 -- The gateway's record in computed cases: total and length of a package, its fields, the start (17, 18, 19), and the test of 29. What a row says
--- is written from 01, "The gateway" and "Numbers returned", as 02 (2026-04) amends it. Assumes nothing.
+-- is written from 01, "The gateway" and "Numbers returned", as 02 (2026-04, 2026-08) amends it. Assumes nothing.
 use Prim.Native.Nat.{ℕ}
 use mathlib.Core.Bool.{Bool, true, false}
 use mathlib.Core.List.{List, [], _∷_, _++_}
@@ -36,6 +36,8 @@ abbrev pub starts : List (List ℕ × ℕ × List ℕ × Bool × Started)
 starts =
     (text 2, 32, content, false, record { number = 0; gateway = gateway 0 0 (text 2) 32 2 0x0000 33 }) ∷
     (text 2, 32, content, true, record { number = 0; gateway = gateway 0 0 (text 2) 32 2 0x7281 33 }) ∷
+    (text 2, 1024, content, false, record { number = 0; gateway = gateway 0 0 (text 2) 1024 1 0x0000 33 }) ∷
+    (text 2, 1025, content, false, record { number = 18; gateway = gateway 0 0 (replicate 16 0) 0 0 0 0 }) ∷
     -- 17, 18, 19 in their order
     (slashedText, 32, content, true, record { number = 17; gateway = gateway 0 0 (replicate 16 0) 0 0 0 0 }) ∷
     (noText, 31, [], true, record { number = 17; gateway = gateway 0 0 (replicate 16 0) 0 0 0 0 }) ∷

@@ -13,4 +13,4 @@ unfolding pick refusal oneOf sizeOk totalOk isWord versionCharacter front allZer
     deviceRow fragmentOk gatewayRow
     doubled entryOf step register checkOf zeroed messageCheck startHolds versionByteHolds codeHolds checkHolds lengthHolds recognition
 message-cases =
-    record { in-range = refl; text-is = refl; result-is = refl; field-is = refl; device-data = refl; gateway-data = refl; number-is = refl }
+    record { in-range = refl; text-is = refl; result-is = refl; room-is = refl; field-is = refl; device-data = refl; gateway-data = refl; number-is = refl }

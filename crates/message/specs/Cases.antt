@@ -32,7 +32,7 @@ padded b n zeros = replicate n b ++ replicate zeros 0x00
 -- size, total, and any number as a WORD
 abbrev pub ranges : List (Bool × Bool)
 ranges =
-    (sizeOk 31, false) ∷ (sizeOk 32, true) ∷ (sizeOk 1024, true) ∷ (sizeOk 1025, false) ∷
+    (sizeOk 31, false) ∷ (sizeOk 32, true) ∷ (sizeOk 500, true) ∷ (sizeOk 501, true) ∷ (sizeOk 1024, true) ∷ (sizeOk 1025, false) ∷
     (totalOk 0, false) ∷ (totalOk 1, true) ∷ (totalOk 65535, true) ∷ (totalOk 65536, false) ∷
     (isWord 65535, true) ∷ (isWord 65536, false) ∷
     []
@@ -89,6 +89,10 @@ results =
     ) ∷
     []
 
+-- the least buffer of each sender
+abbrev pub rooms : List (ℕ × ℕ)
+rooms = (toDevice .room, 1035) ∷ (toGateway .room, 26) ∷ []
+
 -- the other fields, each out of its range alone
 abbrev pub fields : List (Bool × Bool)
 fields =
@@ -97,6 +101,8 @@ fields =
     (toDevice .valid (announce (record { version = text 1; size = 32; total = 1; code = 0 })), true) ∷
     (toDevice .valid (announce (record { version = noText; size = 32; total = 1; code = 0 })), false) ∷
     (toDevice .valid (announce (record { version = text 1; size = 31; total = 1; code = 0 })), false) ∷
+    (toDevice .valid (announce (record { version = text 1; size = 1024; total = 1; code = 0 })), true) ∷
+    (toDevice .valid (announce (record { version = text 1; size = 1025; total = 1; code = 0 })), false) ∷
     (toDevice .valid (announce (record { version = text 1; size = 32; total = 0; code = 0 })), false) ∷
     (toDevice .valid (announce (record { version = text 1; size = 32; total = 1; code = 65536 })), false) ∷
     (toDevice .valid (fragment 0x00 0 (replicate 1024 0x41)), true) ∷
@@ -169,6 +175,7 @@ pub record MessageCases : Type 0 where
   pub in-range : Agree (λ (r : Bool × Bool). r .0) (λ r. r .1) ranges
   pub text-is : Agree (λ (r : List ℕ × Bool). goodVersion (r .0)) (λ r. r .1) texts
   pub result-is : Agree (λ (r : (ℕ → Bool) × List ℕ). allowed (r .0)) (λ r. r .1) results
+  pub room-is : Agree (λ (r : ℕ × ℕ). r .0) (λ r. r .1) rooms
   pub field-is : Agree (λ (r : Bool × Bool). r .0) (λ r. r .1) fields
   pub device-data : Agree (λ (r : DeviceMessage × List ℕ). toDevice .code (r .0) ∷ toDevice .content (r .0)) (λ r. r .1) sentToDevice
   pub gateway-data : Agree (λ (r : GatewayMessage × List ℕ). toGateway .code (r .0) ∷ toGateway .content (r .0)) (λ r. r .1) sentToGateway
