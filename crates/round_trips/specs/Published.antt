@@ -25,7 +25,8 @@ given (step-of r b) = step r b
 given (entry i) = getD entries i 0
 given (size-ok n) = pick (sizeOk n) 1 0
 
--- each message is shown as it is printed (that with 3AE6 as 01 has it), its check in its field, which is taken as 0000; a size that is allowed gives 1, another 0
+-- each message is shown as it is printed (that with 3AE6 as 01 has it), its check in its field, which is taken as 0000; a size that is allowed
+-- gives 1, another 0
 abbrev pub rows : List (Row × ℕ)
 rows =
     (check-of 8 0xFFFE0113_4C9A_0000, 0x4C9A) ∷  -- 19 query
