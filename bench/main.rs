@@ -8,12 +8,9 @@ mod plot;
 mod upgrade;
 
 use measure::Times;
+use pcp::{SIZE_MAX, SIZE_MIN, SIZE_PUBLIC};
 use plot::Line;
 use std::{env, fs};
-
-/// A fragment's size: the most, and the least.
-const LARGE: u16 = 500;
-const SMALL: u16 = 32;
 
 fn main() {
     let picture = env::args().nth(1).expect("usage: bench PICTURE");
@@ -22,24 +19,26 @@ fn main() {
     for (length, calls, rounds) in [(16, 20_000, 301), (500, 1_000, 301), (8 << 20, 1, 21)] {
         print_row(&format!("{length} bytes"), &calls::check(&bytes(length), calls, rounds));
     }
-    println!("one fragment of {LARGE} bytes, ns for each call");
-    let package = bytes(200 * usize::from(LARGE) + 1);
-    print_row("device receives it", &calls::fragment_received(LARGE, &package));
-    print_row("gateway is asked for it", &calls::fragment_served(LARGE, &package));
+    for size in [SIZE_PUBLIC, SIZE_MAX] {
+        println!("one fragment of {size} bytes, ns for each call");
+        let package = bytes(200 * usize::from(size) + 1);
+        print_row("device receives it", &calls::fragment_received(size, &package));
+        print_row("gateway is asked for it", &calls::fragment_served(size, &package));
+    }
     println!("device is asked for its next message, ns for each call");
     let total = 60_000;
-    let package = bytes(total * usize::from(SMALL));
-    for (stored, times) in calls::asking(SMALL, &package, &[0, 600, 6_000, 30_000, 59_999]) {
+    let package = bytes(total * usize::from(SIZE_MIN));
+    for (stored, times) in calls::asking(SIZE_MIN, &package, &[0, 600, 6_000, 30_000, 59_999]) {
         print_row(&format!("{stored} of {total} stored"), &times);
     }
     println!("the same with the last missing, against plain searches alone");
-    for (search, times) in calls::searched(SMALL, &package) {
+    for (search, times) in calls::searched(SIZE_MIN, &package) {
         print_row(search, &times);
     }
-    println!("a whole upgrade, ns for each fragment of {LARGE} bytes");
+    println!("a whole upgrade, ns for each fragment of {SIZE_PUBLIC} bytes");
     let mut lines = [Line::new("library"), Line::new("plain Rust")];
     for (kib, rounds) in [(64, 101), (256, 61), (1 << 10, 41), (4 << 10, 25), (8 << 10, 21), (16 << 10, 15)] {
-        for (ends, times) in upgrade::compared(LARGE, &bytes(kib << 10), rounds) {
+        for (ends, times) in upgrade::compared(SIZE_PUBLIC, &bytes(kib << 10), rounds) {
             print_row(&format!("{kib:>5} KiB, {ends}"), &times);
             if ends == upgrade::BOTH {
                 lines[0].points.push((kib, times.library));
@@ -47,7 +46,7 @@ fn main() {
             }
         }
     }
-    fs::write(&picture, plot::cost_by_package(LARGE, &lines)).expect("the picture is written");
+    fs::write(&picture, plot::cost_by_package(SIZE_PUBLIC, &lines)).expect("the picture is written");
 }
 
 fn print_row(name: &str, times: &Times) {
