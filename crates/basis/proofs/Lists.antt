@@ -56,6 +56,13 @@ pub same-differs : (xs ys : List ℕ) (i : ℕ) → i < length xs → i < length
 unfolding same
 same-differs xs ys i h k e = rw (drop-cons xs i 0, drop-cons ys i 0, ne-eqb (getD xs i 0) (getD ys i 0) e)
 
+pub same-lengths : (xs ys : List ℕ) → (length xs ≡ length ys → ⊥) → same xs ys ≡ false
+same-lengths xs ys h = at (same xs ys) refl
+  where
+    at : (t : Bool) → same xs ys ≡ t → same xs ys ≡ false
+    at true t = absurd (h (ap length (same-true xs ys t)))
+    at false t = t
+
 pub same-ended : (xs ys : List ℕ) (i : ℕ) → length xs ≤ i → length ys ≤ i → same (drop i xs) (drop i ys) ≡ true
 unfolding same
 same-ended xs ys i h k = rw (drop-of-length-le xs h, drop-of-length-le ys k)

@@ -90,6 +90,10 @@ badMark = 20
 abbrev pub cutShort : ℕ
 cutShort = 21
 
+-- fragment already stored with other bytes, or with another length (02, 2026-06)
+abbrev pub repeatDiffers : ℕ
+repeatDiffers = 23
+
 -- a lent record that breaks the rules
 abbrev pub badRecord : ℕ
 badRecord = 29

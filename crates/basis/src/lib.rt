@@ -7,7 +7,7 @@ ghost use mathlib.Core.Path.{_≡_};
 ghost use mathlib.Core.List.{_++_};
 ghost use Prim.Native.Nat.{_+_, _*_, _≤_, min};
 ghost use lib.ListN.{length, getD};
-ghost use Rattle.basis.specs.Bytes.{wordAt, wordBytes, patched};
+ghost use Rattle.basis.specs.Bytes.{wordAt, wordBytes, same, patched};
 ghost use Rattle.basis.specs.Choice.{pick, oneOf};
 ghost use Rattle.basis.specs.Stretch.{Stretch};
 
@@ -83,6 +83,23 @@ pub fn part_of<'a>(whole: &'a [u8], start: usize, count: usize) -> &'a [u8]
     let from = least(start, whole.len());
     let n = least(count, whole.len() - from);
     &whole[from..from + n]
+}
+
+// The two slices hold the same bytes.
+pub fn same_bytes(a: &[u8], b: &[u8]) -> bool
+    ensures { λ r. ⌜ r ≡ same (now (a .entry)) (now (b .entry)) ⌝ }
+{
+    if a.len() != b.len() {
+        return false;
+    }
+    let mut i = 0;
+    while i < a.len() {
+        if a[i] != b[i] {
+            return false;
+        }
+        i += 1;
+    }
+    true
 }
 
 // Writes src into the buffer from a place on. The buffer has room for it.

@@ -67,6 +67,9 @@ pub const BAD_MARK: u8 = 20;
 // A record of a capture cut short.
 pub const CUT_SHORT: u8 = 21;
 
+// Fragment already stored with other bytes, or with another length.
+pub const REPEAT_DIFFERS: u8 = 23;
+
 // A lent record that breaks the rules.
 pub const BAD_RECORD: u8 = 29;
 

@@ -1,15 +1,16 @@
 -- The rule of a fragment (21), test by test. Assumes nothing.
 use Prim.Native.Nat.{ℕ}
+use native.Mathlib.Omega.{arith}
 use mathlib.Core.Path.{_≡_, _∙_}
 use mathlib.Core.List.{List}
 use lib.Dec.{eqb}
-use lib.ListN.{length}
 use borrow.Author.Tests.{eq-eqb, ne-eqb}
 use Rattle.basis.specs.Choice.{pick}
 use Rattle.basis.proofs.Choosing.{pick-yes, pick-no}
 use Rattle.device_record.specs.declared.Device.{Device}
+use Rattle.basis.specs.Numbers.{repeatDiffers}
 use Rattle.device_record.specs.Record.{idle, loading, inPhase}
-use Rattle.device.specs.Rules.{refuse, moved, store, fragmentNumber, onFragment}
+use Rattle.device.specs.Rules.{refuse, differ, moved, store, fragmentNumber, onFragment}
 
 module _ (d : Device) (image map reply : List ℕ) (result index : ℕ) (content : List ℕ) where
   pub not-loading : (d .phase ≡ loading → ⊥) → onFragment d image map reply result index content ≡ refuse d image map reply 9
@@ -26,16 +27,19 @@ module _ (d : Device) (image map reply : List ℕ) (result index : ℕ) (content
       unfolding onFragment
       unknown e = pick-yes _ _ _ (eq-eqb (d .phase) loading p) ∙ pick-no _ _ _ (ne-eqb result 0x80 not80) ∙ pick-yes _ _ _ (eq-eqb result 0x81 e)
 
-      module _ (not81 : result ≡ 0x81 → ⊥) (n : ℕ) (number : n ≡ fragmentNumber (d .fields) index (length content) map) where
+      module _ (not81 : result ≡ 0x81 → ⊥) (n : ℕ) (number : n ≡ fragmentNumber (d .fields) (d .last) index image map content) where
         tested : onFragment d image map reply result index content
-            ≡ pick (eqb n 0) (store d image map reply index content) (refuse d image map reply n)
+            ≡ pick (eqb n 0) (store d image map reply index content) (pick (eqb n repeatDiffers) (differ d image map reply) (refuse d image map reply n))
         unfolding onFragment
         tested =
             rw number
             (pick-yes _ _ _ (eq-eqb (d .phase) loading p) ∙ pick-no _ _ _ (ne-eqb result 0x80 not80) ∙ pick-no _ _ _ (ne-eqb result 0x81 not81))
 
-        pub refused-first : (n ≡ 0 → ⊥) → onFragment d image map reply result index content ≡ refuse d image map reply n
-        refused-first h = tested ∙ pick-no _ _ _ (ne-eqb n 0 h)
+        pub differs : n ≡ repeatDiffers → onFragment d image map reply result index content ≡ differ d image map reply
+        differs e = tested ∙ pick-no _ _ _ (ne-eqb n 0 (λ z. omega arith)) ∙ pick-yes _ _ _ (eq-eqb n repeatDiffers e)
+
+        pub refused-first : (n ≡ 0 → ⊥) → (n ≡ repeatDiffers → ⊥) → onFragment d image map reply result index content ≡ refuse d image map reply n
+        refused-first h k = tested ∙ pick-no _ _ _ (ne-eqb n 0 h) ∙ pick-no _ _ _ (ne-eqb n repeatDiffers k)
 
         pub stores : n ≡ 0 → onFragment d image map reply result index content ≡ store d image map reply index content
         stores e = tested ∙ pick-yes _ _ _ (eq-eqb n 0 e)

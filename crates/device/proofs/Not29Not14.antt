@@ -1,5 +1,5 @@
 -- A record that the device's own calls left, with its buffers, is not refused with 29, nor with 14. Assumes nothing.
-use Prim.Native.Nat.{ℕ, _<_, _≤_}
+use Prim.Native.Nat.{ℕ, _<_}
 use native.Mathlib.Omega.{arith}
 use mathlib.Core.Path.{_≡_, sym, _∙_}
 use mathlib.Core.Bool.{Bool, true, true≢false}
@@ -11,6 +11,7 @@ use Rattle.message.specs.Messages.{DeviceMessage, query, announce, fragment, do
 use Rattle.message.specs.Messages.{refused, toDevice, toGateway}
 use Rattle.codec.specs.Codec.{readOf, said}
 use Rattle.message.specs.Recognition.{recognition}
+use Rattle.message.specs.declared.Fields.{Fields}
 use Rattle.device_record.specs.declared.Device.{Device}
 use Rattle.device_record.specs.Record.{loading}
 use Rattle.bitmap.specs.Bitmap.{lowestMissing}
@@ -30,42 +31,44 @@ abbrev Fine : {M : Type 0} → Reading M → Type 0
 Fine (found m) = Unit {0}
 Fine (refused n) = Neither n
 
--- ---- what a reading and its handler answer is at most 12
+-- ---- what a reading and its handler answer
 
-abbrev Most : {M : Type 0} → Reading M → Type 0
-Most (found m) = Unit {0}
-Most (refused n) = n ≤ 12
-
-pub read-most : (t : Table) (supported pcp : Bool) (bytes : List ℕ) → Most (readOf t supported pcp bytes)
+read-fine : (t : Table) (supported pcp : Bool) (bytes : List ℕ) → Fine (readOf t supported pcp bytes)
 unfolding readOf recognition
-read-most t supported pcp bytes =
-    by-cases Most (λ _. by-cases Most (λ _. tt) (λ _. omega arith)) (λ _. refusal-among (λ n. n ≤ 12) _ (omega arith) (omega arith))
+read-fine t supported pcp bytes =
+    by-cases Fine (λ _. by-cases Fine (λ _. tt) (λ _. omega arith)) (λ _. refusal-among Neither _ (omega arith) (omega arith))
+
+repeat-neither : (f : Fields) (last index : ℕ) (image bytes : List ℕ) → Neither (rules.repeatNumber f last index image bytes)
+unfolding rules.repeatNumber
+repeat-neither f last index image bytes = by-cases Neither (λ _. omega arith) (λ _. omega arith)
 
 module _ (d : Device) (image map reply : List ℕ) where
   L : After → Type 0
-  L a = a .number ≤ 12
+  L a = Neither (a .number)
 
-  pub handle-most : (condition : ℕ) (r : Reading DeviceMessage) → Most r → handle d image map reply condition r .number ≤ 12
+  handle-neither : (condition : ℕ) (r : Reading DeviceMessage) → Fine r → Neither (handle d image map reply condition r .number)
   unfolding L handle onQuery onAnnounce onFragment rules.fragmentNumber onDownloadReply onExecute onResultReply begin store
-  handle-most condition (refused n) h = h
-  handle-most condition (found query) h = omega arith
-  handle-most condition (found (announce f)) h = by-cases L (λ _. by-cases L (λ _. omega arith) (λ _. omega arith)) (λ _. omega arith)
-  handle-most condition (found (fragment result index bytes)) h =
+  handle-neither condition (refused n) h = h
+  handle-neither condition (found query) h = omega arith
+  handle-neither condition (found (announce f)) h = by-cases L (λ _. by-cases L (λ _. omega arith) (λ _. omega arith)) (λ _. omega arith)
+  handle-neither condition (found (fragment result index bytes)) h =
       by-cases L
       (λ _. by-cases L (λ _. omega arith)
       (λ _. by-cases L (λ _. omega arith)
-      (λ _. by-cases L (λ _. omega arith) (λ _. refusal-among (λ n. n ≤ 12) _ (omega arith) (omega arith)))))
+      (λ _. by-cases L (λ _. omega arith)
+      (λ _. by-cases L (λ _. omega arith)
+      (λ _. refusal-among Neither _ (omega arith) (omega arith, (omega arith, (repeat-neither (d .fields) (d .last) index image bytes, tt))))))))
       (λ _. omega arith)
-  handle-most condition (found (downloadReply result)) h =
+  handle-neither condition (found (downloadReply result)) h =
       by-cases L (λ _. omega arith) (λ _. by-cases L (λ _. omega arith) (λ _. omega arith))
-  handle-most condition (found execute) h = omega arith
-  handle-most condition (found (resultReply result)) h = by-cases L (λ _. omega arith) (λ _. omega arith)
+  handle-neither condition (found execute) h = omega arith
+  handle-neither condition (found (resultReply result)) h = by-cases L (λ _. omega arith) (λ _. omega arith)
 
   -- a message is read and handled
-  pub heard-most : (supported pcp : Bool) (condition : ℕ) (message : List ℕ)
-      → handle d image map reply condition (readOf toDevice supported pcp message) .number ≤ 12
-  heard-most supported pcp condition message =
-      handle-most condition (readOf toDevice supported pcp message) (read-most toDevice supported pcp message)
+  pub heard-neither : (supported pcp : Bool) (condition : ℕ) (message : List ℕ)
+      → Neither (handle d image map reply condition (readOf toDevice supported pcp message) .number)
+  heard-neither supported pcp condition message =
+      handle-neither condition (readOf toDevice supported pcp message) (read-fine toDevice supported pcp message)
 
 -- ---- neither 29 nor 14
 
@@ -97,7 +100,7 @@ module _ (rule : Rule) (d : Device) (image map : List ℕ) (s : Sound rule d ima
         → Neither (receiveOf d image map reply supported pcp condition message .number)
     unfolding receiveOf refusal
     receive-neither supported pcp condition message =
-        by-cases (λ (a : After). Neither (a .number)) (λ _. omega (arith, heard-most d image map reply supported pcp condition message))
+        by-cases (λ (a : After). Neither (a .number)) (λ _. heard-neither d image map reply supported pcp condition message)
         (λ _. by-cases Neither
         (λ _. by-cases Neither
         (λ _. unless 29 (sound-record rule d image map s) (unless 14 (sound-room rule d image map s) (omega arith)))

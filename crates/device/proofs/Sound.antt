@@ -214,6 +214,25 @@ sound-moved rule d image map input phase (Views.rejected condition result i n p 
 sound-moved rule d image map input phase (Views.abandons condition result i p e) s = rw e (sound-idle rule d image map s)
 sound-moved rule d image map input phase (Views.reported condition result i p e) s = rw e (sound-idle rule d image map s)
 
+-- a repeat that differs: Failed, with what is stored
+pub sound-differs : (rule : Rule) (d : Device) (image map : List ℕ) → d .phase ≡ loading → Sound rule d image map
+    → Sound rule (inPhase failed d) image map
+sound-differs rule d image map p s =
+    let w : Download rule d image map = s .download (λ e. omega (arith, p)) in
+    record {
+      phase-known = omega arith;
+      outcome-known = s .outcome-known;
+      running-good = s .running-good;
+      target-good = s .target-good;
+      download = λ _. record {
+        holds = w .holds;
+        counts = w .counts;
+        last-fits = w .last-fits;
+        unfinished = λ e. absurd (omega arith);
+        full = λ _ f. absurd (f refl);
+      };
+    }
+
 pub sound-executed : (rule : Rule) (d : Device) (image map : List ℕ) → (d .phase ≡ loaded) ⊎ (d .phase ≡ acked)
     → Sound rule d image map → Sound rule (inPhase installing d) image map
 sound-executed rule d image map p s =
@@ -239,6 +258,7 @@ sound-does rule d image map input o (Views.still n says x e) new s = rw e s
 sound-does rule d image map input o (Views.begins condition f i b e) new s = rw e (sound-begun rule rule d image map condition f b s)
 sound-does rule d image map input o (Views.stores condition index bytes i st e) new s =
     rw e (sound-stored rule d image map index bytes st (new condition index bytes i st) s)
+sound-does rule d image map input o (Views.differs condition index bytes i p r e) new s = rw e (sound-differs rule d image map p s)
 sound-does rule d image map input o (Views.moves phase m e) new s = rw e (sound-moved rule d image map input phase m s)
 sound-does rule d image map input o (Views.executes condition i p e) new s = rw e (sound-executed rule d image map p s)
 sound-does rule d image map input o (Views.reports code i p k e) new s = rw e (sound-outcome rule d image map code p k s)

@@ -4,19 +4,22 @@ use Prim.Native.Nat.{ℕ, _+_, _*_, _-_, _≤_, _<_, min}
 use native.Mathlib.Nat.{mul-comm, suc-mul}
 use native.Mathlib.Omega.{arith}
 use mathlib.Core.Path.{_≡_, sym, _∙_, ap}
+use mathlib.Core.Bool.{true≢false}
 use mathlib.Core.List.{List}
 use lib.ListN.{length, take, drop, length-take, length-drop}
 use lib.Seq.{take-take}
-use borrow.Author.Tests.{eq-eqb}
+use borrow.Author.Tests.{eq-eqb, eqb-true, eqb-false}
+use Rattle.basis.specs.Choice.{pick}
 use Rattle.basis.specs.Bytes.{patched}
-use Rattle.basis.proofs.Choosing.{pick-yes}
+use Rattle.basis.proofs.Choosing.{by-cases, pick-yes}
+use Rattle.basis.proofs.Lists.{same-eq}
 use Rattle.message.specs.Messages.{fragment, found}
 use Rattle.message.specs.declared.Fields.{Fields}
 use Rattle.device_record.specs.declared.Device.{Device}
 use Rattle.device_record.specs.Record.{idle, loading, failed}
 use Rattle.device.proofs.Images.{Stands, place-within, patched-stands, joined}
-use Rattle.device_decisions.specs.Decisions.{lastAfter}
-use Rattle.device_decisions.proofs.Tested.{fragment-fits}
+use Rattle.device_decisions.specs.Decisions.{isLast, lastAfter, storedBytes}
+use Rattle.device_decisions.proofs.Tested.{fragment-fits, fragment-whole}
 use Rattle.device.proofs.Holds.{Rule, Holds, holds-all}
 use Rattle.device.proofs.Views
 use Rattle.device.proofs.Sound.{Download, Sound, sound-under, sound-does}
@@ -67,6 +70,19 @@ module _ (Q : (index : ℕ) → List ℕ → Type 0) where
               (omega (arith, h .image-room, place-within (d .fields .size) (d .fields .total) index (length bytes) (st .below) fits));
           ends = λ t. sym (pick-yes _ (length bytes) (d .last) (eq-eqb (index + 1) (d .fields .total) t));
         }
+
+    -- what is stored comes again with the bytes that stand there, if there is one way only in which Q holds
+    pub repeats-same : ((index : ℕ) (a b : List ℕ) → Q index a → Q index b → a ≡ b) → (index : ℕ) (bytes : List ℕ) → Sound standing d image map
+        → d .phase ≡ loading → Views.Repeats d image map index bytes → Q index bytes → ⊥
+    repeats-same one index bytes s p r q =
+        let f : Fields = d .fields in
+        let h : Stored f image (d .last) index = s .download (λ e. omega (arith, p)) .holds .each index (r .below) (r .stored) in
+        let e : h .bytes ≡ bytes = one index (h .bytes) bytes (h .known) q in
+        let long : length (h .bytes) ≡ pick (isLast f index) (d .last) (f .size) =
+        by-cases (λ (n : ℕ). length (h .bytes) ≡ n) (λ t. h .ends (eqb-true (index + 1) (f .total) t))
+        (λ t. ap length e ∙ fragment-whole f index (length bytes) (r .long) (eqb-false (index + 1) (f .total) t)) in
+        let stored : storedBytes f (d .last) index image ≡ bytes = rw (← long) (h .stands) ∙ e in
+        true≢false (sym (same-eq bytes (storedBytes f (d .last) index image) (sym stored)) ∙ r .other)
 
     -- any call
     pub standing-does : (input : Views.Input) (o : Views.Out) → Views.Does d image map input o

@@ -10,8 +10,9 @@ use lib.Dec.{eqb}
 use lib.ListN.{length, take}
 use borrow.Author.Tests.{eqb-true, eqb-false, ne-eqb, ltb-true, not-true}
 use Rattle.basis.specs.Choice.{pick, oneOf}
+use Rattle.basis.specs.Numbers.{repeatDiffers}
 use Rattle.basis.specs.Bytes.{same, over, patched}
-use Rattle.basis.proofs.Choosing.{by-cases, pick-no, and-left, and-right, or-either, passed}
+use Rattle.basis.proofs.Choosing.{by-cases, pick-no, and-left, and-right, or-either, passed, refusal-among}
 use Rattle.basis.proofs.Lists.{same-true, take-over}
 use Rattle.message.specs.Limits.{isWord}
 use Rattle.message.specs.Messages.{DeviceMessage, query, announce, fragment, downloadReply, execute, resultReply, GatewayMessage, queryReply}
@@ -19,12 +20,12 @@ use Rattle.message.specs.Messages.{announceReply, fragmentRequest, downloadRepo
 use Rattle.message.specs.Messages.{found, refused, toDevice, toGateway, deviceRow}
 use Rattle.codec.specs.Codec.{sealed, frame, bytesOf, readOf, said}
 use Rattle.message.specs.declared.Fields.{Fields}
-use Rattle.round_trips.proofs.WrittenRead.{read}
+use Rattle.round_trips.proofs.WrittenRead.{read, read-refused}
 use Rattle.device_decisions.proofs.Accepted.{Accepted, accepted-facts}
 use Rattle.device_record.specs.declared.Device.{Device}
 use Rattle.device_record.specs.Record.{idle, loading, loaded, acked, failed, installing, reporting, holding, inPhase, begun, withFragment, withOutcome}
 use Rattle.device_record.specs.Record.{recordOk, mapBytes, askRefusal, finishRefusal}
-use Rattle.device_decisions.proofs.Tested.{fragment-passed}
+use Rattle.device_decisions.proofs.Tested.{Passed, Differs, fragment-passed, fragment-differs}
 use Rattle.bitmap.specs.Bitmap.{marked, mark, cleared, lowestMissing}
 use Rattle.device.specs.declared.Finished.{Finished}
 use Rattle.device.specs.Rules as rules
@@ -96,6 +97,10 @@ module _ (d : Device) (image map : List ℕ) where
     pub long : fragmentLength (d .fields) index (length bytes) ≡ true
     pub new : marked map index ≡ false
 
+  -- a fragment that is stored comes again with other bytes
+  abbrev pub Repeats : (index : ℕ) → List ℕ → Type 0
+  Repeats index bytes = Differs (d .fields) (d .last) index image map bytes
+
   abbrev pub storedOut : (index : ℕ) → List ℕ → Out
   storedOut index bytes =
       let stored : ℕ = d .stored + 1 in
@@ -114,8 +119,8 @@ module _ (d : Device) (image map : List ℕ) where
 
   -- what is said, with which number, where nothing changes
   pub data Still (input : Input) (n : ℕ) (says : List (List ℕ)) : Type 0 where
-    refuses : (n ≡ 0 → ⊥) → says ≡ [] → Still input n says
-    unread : (condition : ℕ) → input ≡ hears condition (refused n) → says ≡ [] → Still input n says
+    refuses : (n ≡ 0 → ⊥) → (n ≡ repeatDiffers → ⊥) → says ≡ [] → Still input n says
+    unread : (condition : ℕ) → input ≡ hears condition (refused n) → n ≤ 8 → says ≡ [] → Still input n says
     skips : (condition index : ℕ) (bytes : List ℕ) → input ≡ hears condition (found (fragment 0x81 index bytes)) → n ≡ 0 → says ≡ []
         → Still input n says
     queried : (condition : ℕ) → input ≡ hears condition (found query) → n ≡ 0 → says ≡ spoken (queryReply 0x00 (d .running)) → Still input n says
@@ -149,6 +154,8 @@ module _ (d : Device) (image map : List ℕ) where
         → o ≡ out 0 (begun f d) image (cleared (mapBytes (f .total)) map) (spoken (announceReply 0x00)) → Does input o
     stores : (condition index : ℕ) (bytes : List ℕ) → input ≡ hears condition (found (fragment 0x00 index bytes)) → Stores index bytes
         → o ≡ storedOut index bytes → Does input o
+    differs : (condition index : ℕ) (bytes : List ℕ) → input ≡ hears condition (found (fragment 0x00 index bytes)) → d .phase ≡ loading
+        → Repeats index bytes → o ≡ out repeatDiffers (inPhase failed d) image map [] → Does input o
     moves : (phase : ℕ) → Moves input phase → o ≡ out 0 (inPhase phase d) image map [] → Does input o
     executes : (condition : ℕ) → input ≡ hears condition (found execute) → (d .phase ≡ loaded) ⊎ (d .phase ≡ acked)
         → o ≡ out 0 (inPhase installing d) image map (spoken (executeReply 0x00)) → Does input o
@@ -214,6 +221,10 @@ in-phase phase d e =
 
 -- ---- one call
 
+-- a number other than 23
+abbrev pub Other : ℕ → Type 0
+Other n = n ≡ repeatDiffers → ⊥
+
 module _ (d : Device) (image map : List ℕ) where
   begins-facts : (condition : ℕ) (f : Fields) → toDevice .valid (announce f) ≡ true → announceResult d condition f image map ≡ 0 → resumes d f ≡ false
       → Begins d image map condition f
@@ -247,9 +258,9 @@ module _ (d : Device) (image map : List ℕ) where
     P : Reading DeviceMessage → After → Type 0
     P r a = Does d image map (hears condition r) (outOf a)
 
-    quiet : (r : Reading DeviceMessage) (n : ℕ) → (n ≡ 0 → ⊥) → P r (refuse d image map reply n)
+    quiet : (r : Reading DeviceMessage) (n : ℕ) → (n ≡ 0 → ⊥) → (n ≡ repeatDiffers → ⊥) → P r (refuse d image map reply n)
     unfolding P pick
-    quiet r n h = still n [] (refuses h refl) refl
+    quiet r n h k = still n [] (refuses h k refl) refl
 
     tells : (r : Reading DeviceMessage) (m : GatewayMessage) → Still d image map (hears condition r) 0 (spoken m) → P r (replied d image map reply d m)
     unfolding P
@@ -274,11 +285,14 @@ module _ (d : Device) (image map : List ℕ) where
         (λ p. by-cases (P _) (λ t. moves idle (gives-up condition index bytes (ap r (eqb-true result 0x80 t)) (eqb-true _ _ p) refl) refl)
         (λ t. by-cases (P _) (λ u. still 0 [] (skips condition index bytes (ap r (eqb-true result 0x81 u)) refl refl) refl)
         (λ u. by-cases (P _)
-        (λ n. let (below, long, new) = fragment-passed (d .fields) index (length bytes) map (eqb-true _ 0 n) in
+        (λ n. let f : Passed (d .fields) (d .last) index image map bytes = fragment-passed (d .fields) (d .last) index image map bytes (eqb-true _ 0 n) in
         stores condition index bytes (ap r (fragment-result result index bytes v (eqb-false _ _ t) (eqb-false _ _ u)))
-        (record { phase = eqb-true _ _ p; below = below; long = long; new = new }) refl)
-        (λ n. quiet _ _ (eqb-false _ 0 n)))))
-        (λ _. quiet _ 9 (λ z. omega arith))
+        (record { phase = eqb-true _ _ p; below = f .below; long = f .long; new = f .new }) refl)
+        (λ n. by-cases (P _)
+        (λ e. differs condition index bytes (ap r (fragment-result result index bytes v (eqb-false _ _ t) (eqb-false _ _ u))) (eqb-true _ _ p)
+        (fragment-differs (d .fields) (d .last) index image map bytes (eqb-true _ repeatDiffers e)) refl)
+        (λ e. quiet _ _ (eqb-false _ 0 n) (eqb-false _ repeatDiffers e))))))
+        (λ _. quiet _ 9 (λ z. omega arith) (λ z. omega arith))
 
     executed : P (found execute) (onExecute d image map reply condition)
     unfolding P onExecute
@@ -293,22 +307,25 @@ module _ (d : Device) (image map : List ℕ) where
         yes-in (inl e) = rw (in-phase installing d e) (tells _ _ (executes-on condition refl e refl refl))
         yes-in (inr e) = executes condition refl e (ap (out 0 (inPhase installing d) image map) (spoken-aired (executeReply 0x00) reply))
 
-    handled : (r : Reading DeviceMessage) → ((m : DeviceMessage) → r ≡ found m → toDevice .valid m ≡ true) → P r (handle d image map reply condition r)
+    handled : (r : Reading DeviceMessage) → ((m : DeviceMessage) → r ≡ found m → toDevice .valid m ≡ true) → ((n : ℕ) → r ≡ refused n → n ≤ 8)
+        → P r (handle d image map reply condition r)
     unfolding P handle onQuery onDownloadReply onExecute onResultReply pick
-    handled (refused n) v = still n [] (unread condition refl refl) refl
-    handled (found query) v = tells (found query) _ (queried condition refl refl refl)
-    handled (found (announce f)) v = announced f (v (announce f) refl)
-    handled (found (fragment result index bytes)) v = given result index bytes (v (fragment result index bytes) refl)
-    handled (found (downloadReply result)) v =
+    handled (refused n) v l = still n [] (unread condition refl (l n refl) refl) refl
+    handled (found query) v l = tells (found query) _ (queried condition refl refl refl)
+    handled (found (announce f)) v l = announced f (v (announce f) refl)
+    handled (found (fragment result index bytes)) v l = given result index bytes (v (fragment result index bytes) refl)
+    handled (found (downloadReply result)) v l =
         by-cases (P _)
         (λ p. by-cases (λ (x : ℕ). P (found (downloadReply result)) (moved d image map reply (inPhase x d)))
         (λ t. moves acked
         (acknowledged condition (ap (λ (n : ℕ). hears condition (found (downloadReply n))) (eqb-true result 0 t)) (eqb-true _ _ p) refl) refl)
         (λ t. moves idle (rejected condition result refl (eqb-false result 0 t) (eqb-true _ _ p) refl) refl))
-        (λ _. by-cases (P _) (λ p. moves idle (abandons condition result refl (eqb-true _ _ p) refl) refl) (λ _. quiet _ 9 (λ z. omega arith)))
-    handled (found execute) v = executed
-    handled (found (resultReply result)) v =
-        by-cases (P _) (λ p. moves idle (reported condition result refl (eqb-true _ _ p) refl) refl) (λ _. quiet _ 9 (λ z. omega arith))
+        (λ _. by-cases (P _) (λ p. moves idle (abandons condition result refl (eqb-true _ _ p) refl) refl)
+        (λ _. quiet _ 9 (λ z. omega arith) (λ z. omega arith)))
+    handled (found execute) v l = executed
+    handled (found (resultReply result)) v l =
+        by-cases (P _) (λ p. moves idle (reported condition result refl (eqb-true _ _ p) refl) refl)
+        (λ _. quiet _ 9 (λ z. omega arith) (λ z. omega arith))
 
   -- what the phase has to say
   module _ (reply : List ℕ) where
@@ -321,18 +338,18 @@ module _ (d : Device) (image map : List ℕ) where
     unfolding S said
     asked m s = still 0 (spoken m) s (ap (out 0 d image map) (spoken-aired m reply))
 
-    nothing : (n : ℕ) → (n ≡ 0 → ⊥) → S (refused n)
+    nothing : (n : ℕ) → (n ≡ 0 → ⊥) → (n ≡ repeatDiffers → ⊥) → S (refused n)
     unfolding S said pick
-    nothing n h = still n [] (refuses h refl) refl
+    nothing n h k = still n [] (refuses h k refl) refl
 
     wants : S (wanted d map)
     unfolding wanted
     wants =
         by-cases S
-        (λ p. by-cases S (λ l. asked _ (requests refl (eqb-true _ _ p) (ltb-true _ _ l) refl refl)) (λ _. nothing 29 (λ z. omega arith)))
+        (λ p. by-cases S (λ l. asked _ (requests refl (eqb-true _ _ p) (ltb-true _ _ l) refl refl)) (λ _. nothing 29 (λ z. omega arith) (λ z. omega arith)))
         (λ _. by-cases S (λ p. asked _ (says-loaded refl (eqb-true _ _ p) refl refl))
         (λ _. by-cases S (λ p. asked _ (says-failed refl (eqb-true _ _ p) refl refl))
-        (λ _. by-cases S (λ p. asked _ (says-result refl (eqb-true _ _ p) refl refl)) (λ _. nothing 9 (λ z. omega arith)))))
+        (λ _. by-cases S (λ p. asked _ (says-result refl (eqb-true _ _ p) refl refl)) (λ _. nothing 9 (λ z. omega arith) (λ z. omega arith)))))
 
   -- the three calls
 
@@ -341,14 +358,16 @@ module _ (d : Device) (image map : List ℕ) where
   unfolding P receiveOf
   receive-does reply supported pcp condition message =
       by-cases (P reply condition _)
-      (λ _. handled reply condition (readOf toDevice supported pcp message) (λ m e. read toDevice supported pcp message m e .valid))
-      (λ t. quiet reply condition _ _ (eqb-false _ 0 t))
+      (λ _. handled reply condition (readOf toDevice supported pcp message) (λ m e. read toDevice supported pcp message m e .valid)
+      (read-refused toDevice supported pcp message))
+      (λ t. quiet reply condition _ _ (eqb-false _ 0 t) (refusal-among Other _ (λ z. omega arith) (omega arith)))
 
   pub ask-does : (reply : List ℕ) → Does d image map asks (askOut d image map reply)
   unfolding S nextMessageOf
   ask-does reply =
       let n : ℕ = askRefusal d image map reply in
-      by-cases (S reply) {t = eqb n 0} {a = wanted d map} {b = refused n} (λ _. wants reply) (λ t. nothing reply n (eqb-false n 0 t))
+      by-cases (S reply) {t = eqb n 0} {a = wanted d map} {b = refused n} (λ _. wants reply)
+      (λ t. nothing reply n (eqb-false n 0 t) (refusal-among Other _ (λ z. omega arith) (omega arith)))
 
   pub install-does : (code : ℕ) → Does d image map (installs code) (installOut d image map code)
   unfolding installFinishedOf
@@ -360,4 +379,32 @@ module _ (d : Device) (image map : List ℕ) where
       let (p, e₂) = passed 8 (eqb (d .phase) installing) _ e₁ in
       let (k, _) = passed 15 (installCode code) _ e₂ in
       reports code refl (eqb-true _ _ p) k refl)
-      (λ t. still n [] (refuses (eqb-false n 0 t) refl) refl)
+      (λ t. still n [] (refuses (eqb-false n 0 t) (refusal-among Other _ (λ z. omega arith) (omega arith)) refl) refl)
+
+-- ---- 23: only a repeat that differs gets it
+
+still-other : (d : Device) (image map : List ℕ) (input : Input) (n : ℕ) (says : List (List ℕ)) → Still d image map input n says → Other n
+still-other d image map input n says (refuses z k s) = k
+still-other d image map input n says (unread c i l s) = λ e. omega arith
+still-other d image map input n says (skips c index bytes i z s) = λ e. omega arith
+still-other d image map input n says (queried c i z s) = λ e. omega arith
+still-other d image map input n says (declines c f result i r nz z s) = λ e. omega arith
+still-other d image map input n says (continues c f i r z s) = λ e. omega arith
+still-other d image map input n says (delays c result i nz z s) = λ e. omega arith
+still-other d image map input n says (executes-on c i p z s) = λ e. omega arith
+still-other d image map input n says (requests i p l z s) = λ e. omega arith
+still-other d image map input n says (says-loaded i p z s) = λ e. omega arith
+still-other d image map input n says (says-failed i p z s) = λ e. omega arith
+still-other d image map input n says (says-result i p z s) = λ e. omega arith
+
+pub does-other : (d : Device) (image map : List ℕ) (input : Input) (o : Out) → Does d image map input o
+    → ((condition index : ℕ) (bytes : List ℕ) → input ≡ hears condition (found (fragment 0x00 index bytes)) → d .phase ≡ loading
+    → Repeats d image map index bytes → ⊥)
+    → Other (o .number)
+does-other d image map input o (still n says s e) h = rw e (still-other d image map input n says s)
+does-other d image map input o (begins c f i b e) h = rw e (λ z. omega arith)
+does-other d image map input o (stores c index bytes i s e) h = rw e (λ z. omega arith)
+does-other d image map input o (differs c index bytes i p r e) h = absurd (h c index bytes i p r)
+does-other d image map input o (moves phase m e) h = rw e (λ z. omega arith)
+does-other d image map input o (executes c i p e) h = rw e (λ z. omega arith)
+does-other d image map input o (reports code i p k e) h = rw e (λ z. omega arith)

@@ -46,7 +46,7 @@ steps =
     (4, 0, announce (fields 2 32 3 0), 0 ∷ 1 ∷ 20 ∷ 0x00 ∷ []) ∷
     (2, 4, announce (fields 3 32 1 7), 0 ∷ 2 ∷ 20 ∷ 0x04 ∷ []) ∷
     (5, 0, announce (fields 3 32 1 7), 0 ∷ 5 ∷ 20 ∷ 0x01 ∷ []) ∷
-    -- 21: phase before index, index before length, length before already stored
+    -- 21: phase before index, index before length, length before already stored, with the same bytes (00) or others
     (1, 0, fragment 0x80 0 [], 0 ∷ 0 ∷ []) ∷
     (1, 0, fragment 0x81 0 [], 0 ∷ 1 ∷ []) ∷
     (0, 0, fragment 0x80 0 [], 9 ∷ 0 ∷ []) ∷
@@ -60,7 +60,8 @@ steps =
     (1, 0, fragment 0x00 3 (replicate 33 0x41), 10 ∷ 1 ∷ []) ∷
     (1, 0, fragment 0x00 1 (0x41 ∷ []), 11 ∷ 1 ∷ []) ∷
     (1, 0, fragment 0x00 2 (replicate 33 0x41), 11 ∷ 1 ∷ []) ∷
-    (1, 0, fragment 0x00 1 (replicate 32 0x41), 12 ∷ 1 ∷ []) ∷
+    (1, 0, fragment 0x00 1 (replicate 32 0x00), 12 ∷ 1 ∷ []) ∷
+    (1, 0, fragment 0x00 1 (replicate 32 0x41), 23 ∷ 4 ∷ []) ∷
     -- 22
     (0, 0, downloadReply 0x00, 9 ∷ 0 ∷ []) ∷
     (1, 0, downloadReply 0x00, 9 ∷ 1 ∷ []) ∷

@@ -1,11 +1,11 @@
--- The device's steps: 01, "The head", with the refusals of "Numbers returned" in their order. Assumes nothing.
+-- The device's steps: 01, "The head", with the refusals of "Numbers returned" in their order, as 02 (2026-06) amends them. Assumes nothing.
 use Prim.Native.Nat.{ℕ, _+_, _*_}
 use mathlib.Core.Bool.{Bool}
 use mathlib.Core.List.{List}
 use lib.Dec.{eqb, ltb}
 use lib.ListN.{length}
 use Rattle.basis.specs.Choice.{pick}
-use Rattle.basis.specs.Numbers.{handled, noUse, badRecord}
+use Rattle.basis.specs.Numbers.{handled, noUse, repeatDiffers, badRecord}
 use Rattle.basis.specs.Bytes.{over, patched}
 use Rattle.message.specs.Messages.{DeviceMessage, query, announce, fragment, downloadReply, execute, resultReply, GatewayMessage, queryReply, announceReply}
 use Rattle.message.specs.Messages.{fragmentRequest, downloadReport, executeReply, resultReport, Reading, found, refused, toDevice, toGateway}
@@ -18,7 +18,7 @@ use Rattle.bitmap.specs.Bitmap.{mark, cleared, lowestMissing}
 use Rattle.device.specs.declared.Finished.{Finished}
 use Rattle.device_decisions.specs.Decisions.{lastAfter}
 unfoldable pub use Rattle.device_decisions.specs.Decisions.{announceResult, sameFields, resumes, fragmentLength}
-unfoldable pub use Rattle.device_decisions.specs.Decisions.{fragmentNumber, passes, completion, executeResult}
+unfoldable pub use Rattle.device_decisions.specs.Decisions.{repeatNumber, fragmentNumber, passes, completion, executeResult}
 
 -- what a call leaves: the number, the length of the reply, the record, and the three buffers
 pub record After : Type 0 where
@@ -33,6 +33,10 @@ module _ (d : Device) (image map reply : List ℕ) where
   -- a refusal: nothing written, reply length 0
   abbrev pub refuse : ℕ → After
   refuse n = record { number = n; length = 0; device = d; image = image; map = map; reply = reply }
+
+  -- 23, a repeat that differs: the phase is Failed, and all else is as for a refusal
+  abbrev pub differ : After
+  differ = record { number = repeatDiffers; length = 0; device = inPhase failed d; image = image; map = map; reply = reply }
 
   -- handled, with no reply; image and map as they are from now on
   abbrev pub movedWith : (image map : List ℕ) → Device → After
@@ -76,14 +80,16 @@ module _ (d : Device) (image map reply : List ℕ) where
       let result : ℕ = announceResult d condition f image map in
       pick (eqb result 0) (pick (resumes d f) (replied d (announceReply 0x00)) (begin f)) (replied d (announceReply result))
 
-  -- 21 in Loading: 80 goes Idle, 81 changes nothing; else 10, 11, 12, or stored
+  -- 21 in Loading: 80 goes Idle, 81 changes nothing; else 10, 11, 12 or 23, or stored
   unfoldable pub onFragment : (result index : ℕ) → List ℕ → After
   onFragment result index bytes =
-      let n : ℕ = fragmentNumber (d .fields) index (length bytes) map in
+      let n : ℕ = fragmentNumber (d .fields) (d .last) index image map bytes in
       pick (eqb (d .phase) loading)
       (pick (eqb result 0x80) (moved (inPhase idle d))
       (pick (eqb result 0x81) (moved d)
-      (pick (eqb n handled) (store index bytes) (refuse n))))
+      (pick (eqb n handled) (store index bytes)
+      (pick (eqb n repeatDiffers) differ
+      (refuse n)))))
       (refuse noUse)
 
   -- 22: Loaded with 00 goes Acked, with 80 Idle; Failed goes Idle

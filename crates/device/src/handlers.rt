@@ -6,6 +6,7 @@ use crate::replies::refused;
 use crate::replies::replied;
 use basis::number::HANDLED;
 use basis::number::NO_USE;
+use basis::number::REPEAT_DIFFERS;
 use basis::pick;
 use device_decisions::announce_result;
 use device_decisions::completion;
@@ -110,7 +111,8 @@ fn store(device: Device, index: u16, content: &[u8], image: &mut [u8], map: &mut
     moved(with_fragment(device, phase, stored, last))
 }
 
-// 21: a fragment, or the gateway's word that there is none.
+// 21: a fragment, or the gateway's word that there is none. A repeat that differs from what is stored
+// is refused as the others are, but leaves Failed.
 pub(crate) fn on_fragment(
     device: Device,
     message: ToDevice,
@@ -140,7 +142,10 @@ pub(crate) fn on_fragment(
         return moved(device);
     }
     let fields = device.fields;
-    let number = fragment_number(fields, index, content.len(), map);
+    let number = fragment_number(fields, device.last, index, image, map, content);
+    if number == REPEAT_DIFFERS {
+        return refused(in_phase(device, Device::FAILED), REPEAT_DIFFERS);
+    }
     if number != HANDLED {
         return refused(device, number);
     }

@@ -1,16 +1,20 @@
 -- What the tests of a fragment tell. Assumes nothing.
 use Prim.Native.Nat.{ℕ, _+_, _≤_, _<_}
 use native.Mathlib.Omega.{arith}
-use mathlib.Core.Path.{_≡_}
+use mathlib.Core.Path.{_≡_, _∙_}
 use mathlib.Core.Bool.{Bool, true, false, not}
-use mathlib.Core.List.{List}
+use mathlib.Core.List.{List, [], _∷_}
 use lib.Dec.{ltb}
-use borrow.Author.Tests.{eqb-true, ltb-true, not-true}
-use Rattle.basis.proofs.Choosing.{by-cases, passed}
+use lib.ListN.{length}
+use borrow.Author.Tests.{eqb-true, ltb-true, le-ltb, lt-ltb, not-true, not-false}
+use Rattle.basis.specs.Choice.{refusal}
+use Rattle.basis.specs.Numbers.{badIndex, badFragmentLength, repeatDiffers}
+use Rattle.basis.specs.Bytes.{same}
+use Rattle.basis.proofs.Choosing.{by-cases, passes, fails}
 use Rattle.bitmap.specs.Bitmap.{marked}
 use Rattle.message.specs.declared.Fields.{Fields}
 use Rattle.device_record.proofs.Ranges.{between}
-use Rattle.device_decisions.specs.Decisions.{fragmentLength, fragmentNumber}
+use Rattle.device_decisions.specs.Decisions.{fragmentLength, storedBytes, repeatNumber, fragmentNumber}
 
 -- a fragment's length: at most size; size itself for all but the last
 pub fragment-fits : (f : Fields) (index n : ℕ) → fragmentLength f index n ≡ true → n ≤ f .size
@@ -34,12 +38,78 @@ fragment-some f index n =
     (λ last e s. between 1 (f .size) n e .0)
     (λ other e s. omega (arith, eqb-true n (f .size) e))
 
--- what is known where 10, 11 and 12 do not arise
-pub fragment-passed : (f : Fields) (index n : ℕ) (map : List ℕ) → fragmentNumber f index n map ≡ 0
-    → (index < f .total) × (fragmentLength f index n ≡ true) × (marked map index ≡ false)
-unfolding fragmentNumber
-fragment-passed f index n map e =
-    let (below, e₁) = passed 9 (ltb index (f .total)) _ e in
-    let (long, e₂) = passed 10 (fragmentLength f index n) _ e₁ in
-    let (new, _) = passed 11 (not (marked map index)) _ e₂ in
-    (ltb-true index (f .total) below, long, not-true _ new)
+-- ---- the numbers 10, 11, and 12 or 23, in order
+
+module _ (f : Fields) (last index : ℕ) (image map bytes : List ℕ) where
+  abbrev number : ℕ
+  number = fragmentNumber f last index image map bytes
+
+  pub past-total : f .total ≤ index → number ≡ badIndex
+  unfolding fragmentNumber
+  past-total h = fails badIndex (ltb index (f .total)) _ (le-ltb index (f .total) h)
+
+  module _ (below : index < f .total) where
+    within : number ≡ refusal ((badFragmentLength, fragmentLength f index (length bytes)) ∷ (repeatNumber f last index image bytes, not (marked map index)) ∷ [])
+    unfolding fragmentNumber
+    within = passes badIndex (ltb index (f .total)) _ (lt-ltb index (f .total) below)
+
+    pub wrong-length : fragmentLength f index (length bytes) ≡ false → number ≡ badFragmentLength
+    wrong-length e = within ∙ fails badFragmentLength _ _ e
+
+    module _ (long : fragmentLength f index (length bytes) ≡ true) where
+      whole : number ≡ refusal ((repeatNumber f last index image bytes, not (marked map index)) ∷ [])
+      whole = within ∙ passes badFragmentLength _ _ long
+
+      none : marked map index ≡ false → refusal ((repeatNumber f last index image bytes, not (marked map index)) ∷ []) ≡ 0
+      unfolding refusal
+      none e = passes (repeatNumber f last index image bytes) (not (marked map index)) [] (rw e)
+
+      pub new-one : marked map index ≡ false → number ≡ 0
+      new-one e = whole ∙ none e
+
+      pub repeated : marked map index ≡ true → number ≡ repeatNumber f last index image bytes
+      repeated e = whole ∙ fails (repeatNumber f last index image bytes) (not (marked map index)) [] (rw e)
+
+  -- a repeat is 12 or 23, and 23 where the bytes are others
+  pub repeat-some : repeatNumber f last index image bytes ≡ 0 → ⊥
+  unfolding repeatNumber
+  repeat-some = by-cases (λ (n : ℕ). n ≡ 0 → ⊥) (λ _ z. omega arith) (λ _ z. omega arith)
+
+  repeat-differs : repeatNumber f last index image bytes ≡ repeatDiffers → same bytes (storedBytes f last index image) ≡ false
+  unfolding repeatNumber
+  repeat-differs = by-cases (λ (n : ℕ). n ≡ repeatDiffers → same bytes (storedBytes f last index image) ≡ false) (λ _ z. absurd (omega arith)) (λ t _. t)
+
+  -- what is known where none of them arises
+  pub record Passed : Type 0 where
+    pub below : index < f .total
+    pub long : fragmentLength f index (length bytes) ≡ true
+    pub new : marked map index ≡ false
+
+  -- what is known where 23 does
+  pub record Differs : Type 0 where
+    pub below : index < f .total
+    pub long : fragmentLength f index (length bytes) ≡ true
+    pub stored : marked map index ≡ true
+    pub other : same bytes (storedBytes f last index image) ≡ false
+
+  pub fragment-passed : number ≡ 0 → Passed
+  unfolding fragmentNumber refusal
+  fragment-passed =
+      by-cases (λ (n : ℕ). n ≡ 0 → Passed)
+      (λ below. by-cases (λ (n : ℕ). n ≡ 0 → Passed)
+      (λ long. by-cases (λ (n : ℕ). n ≡ 0 → Passed)
+      (λ new _. record { below = ltb-true index (f .total) below; long = long; new = not-true _ new })
+      (λ _ z. absurd (repeat-some z)))
+      (λ _ z. absurd (omega arith)))
+      (λ _ z. absurd (omega arith))
+
+  pub fragment-differs : number ≡ repeatDiffers → Differs
+  unfolding fragmentNumber refusal
+  fragment-differs =
+      by-cases (λ (n : ℕ). n ≡ repeatDiffers → Differs)
+      (λ below. by-cases (λ (n : ℕ). n ≡ repeatDiffers → Differs)
+      (λ long. by-cases (λ (n : ℕ). n ≡ repeatDiffers → Differs)
+      (λ _ z. absurd (omega arith))
+      (λ old z. record { below = ltb-true index (f .total) below; long = long; stored = not-false _ old; other = repeat-differs z }))
+      (λ _ z. absurd (omega arith)))
+      (λ _ z. absurd (omega arith))

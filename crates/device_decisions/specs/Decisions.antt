@@ -3,9 +3,9 @@ use Prim.Native.Nat.{ℕ, _+_, _*_, _-_}
 use mathlib.Core.Bool.{Bool, _&&_, _||_, not}
 use mathlib.Core.List.{List, [], _∷_}
 use lib.Dec.{eqb, leb, ltb}
-use lib.ListN.{length, take}
+use lib.ListN.{length, take, drop}
 use Rattle.basis.specs.Choice.{pick, refusal, oneOf}
-use Rattle.basis.specs.Numbers.{badIndex, badFragmentLength, alreadyStored}
+use Rattle.basis.specs.Numbers.{badIndex, badFragmentLength, alreadyStored, repeatDiffers}
 use Rattle.basis.specs.Bytes.{same}
 use Rattle.checksum.specs.Check.{checkOf}
 use Rattle.bitmap.specs.Bitmap.{marked}
@@ -38,15 +38,25 @@ isLast f index = eqb (index + 1) (f .total)
 unfoldable pub fragmentLength : Fields → (index length : ℕ) → Bool
 fragmentLength f index n = pick (isLast f index) (leb 1 n && leb n (f .size)) (eqb n (f .size))
 
--- 21: 10, 11 and 12 in order, else 0
-unfoldable pub fragmentNumber : Fields → (index length : ℕ) (map : List ℕ) → ℕ
-fragmentNumber f index n map =
-    refusal
-    ((badIndex, ltb index (f .total)) ∷ (badFragmentLength, fragmentLength f index n) ∷ (alreadyStored, not (marked map index)) ∷ [])
-
 -- the last length, once a fragment of n bytes is stored
 abbrev pub lastAfter : Fields → (index n last : ℕ) → ℕ
 lastAfter f index n last = pick (isLast f index) n last
+
+-- the bytes of an index that is stored: at its place, size long, those of the last one last length long
+abbrev pub storedBytes : Fields → (last index : ℕ) (image : List ℕ) → List ℕ
+storedBytes f last index image = take (pick (isLast f index) last (f .size)) (drop (index * f .size) image)
+
+-- 21 of an index that is stored: 12 with the same bytes and length, 23 with others (02, 2026-06)
+unfoldable pub repeatNumber : Fields → (last index : ℕ) (image bytes : List ℕ) → ℕ
+repeatNumber f last index image bytes = pick (same bytes (storedBytes f last index image)) alreadyStored repeatDiffers
+
+-- 21: 10, 11, and 12 or 23 in order, else 0
+unfoldable pub fragmentNumber : Fields → (last index : ℕ) (image map bytes : List ℕ) → ℕ
+fragmentNumber f last index image map bytes =
+    refusal
+    ((badIndex, ltb index (f .total)) ∷ (badFragmentLength, fragmentLength f index (length bytes)) ∷
+    (repeatNumber f last index image bytes, not (marked map index))
+    ∷ [])
 
 -- the completed bytes pass where the code is 0 or their check
 unfoldable pub passes : (code : ℕ) → List ℕ → Bool

@@ -5,9 +5,11 @@ use basis::number::ALREADY_STORED;
 use basis::number::BAD_FRAGMENT_LENGTH;
 use basis::number::BAD_INDEX;
 use basis::number::HANDLED;
+use basis::number::REPEAT_DIFFERS;
+use basis::part_of;
 use basis::pick;
 use basis::product;
-use basis::unless;
+use basis::same_bytes;
 use device_record::Device;
 use device_record::holding;
 use device_record::map_bytes;
@@ -15,8 +17,8 @@ use message::Fields;
 ghost use mathlib.Core.Path.{_≡_};
 ghost use lib.Dec.{eqb, leb};
 ghost use Rattle.basis.specs.Choice.{pick};
-ghost use Rattle.device_decisions.specs.Decisions.{announceResult, sameFields, resumes, fragmentLength, fragmentNumber, lastAfter, passes};
-ghost use Rattle.device_decisions.specs.Decisions.{trueLength, completion, executeResult};
+ghost use Rattle.device_decisions.specs.Decisions.{announceResult, sameFields, resumes, fragmentLength, repeatNumber, fragmentNumber};
+ghost use Rattle.device_decisions.specs.Decisions.{lastAfter, passes, trueLength, completion, executeResult};
 
 // 20: what an announcement is answered with, tests in order.
 pub fn announce_result(
@@ -71,15 +73,38 @@ fn fragment_length(fields: Fields, index: u16, len: usize) -> bool
     }
 }
 
-// 21: the numbers 10, 11 and 12 in order, else 0.
-pub fn fragment_number(fields: Fields, index: u16, len: usize, map: &[u8]) -> u8
-    ensures { λ r. ⌜ r ≡ fragmentNumber fields index len (now (map .entry)) ⌝ }
+// 21 of an index that is stored: 12 with the same bytes and length, 23 with others. The stored bytes
+// are as many as every fragment's, or as the last one's.
+fn repeat_number(fields: Fields, last: u16, index: u16, image: &[u8], content: &[u8]) -> u8
+    ensures { λ r. ⌜ r ≡ repeatNumber fields last index (now (image .entry)) (now (content .entry)) ⌝ }
 {
-    let below = index < fields.total;
-    let long = fragment_length(fields, index, len);
-    let new = !bitmap::marked(map, index as usize);
-    let stored = unless(new, ALREADY_STORED, HANDLED);
-    unless(below, BAD_INDEX, unless(long, BAD_FRAGMENT_LENGTH, stored))
+    let size = fields.size;
+    let length = last_length(fields, index, last, size);
+    let stored = part_of(image, product(index, size), length as usize);
+    pick(same_bytes(content, stored), ALREADY_STORED, REPEAT_DIFFERS)
+}
+
+// 21: the numbers 10, 11, and 12 or 23 in order, else 0. Only a repeat is compared.
+pub fn fragment_number(
+    fields: Fields,
+    last: u16,
+    index: u16,
+    image: &[u8],
+    map: &[u8],
+    content: &[u8],
+) -> u8
+    ensures { λ r. ⌜ r ≡ fragmentNumber fields last index (now (image .entry)) (now (map .entry)) (now (content .entry)) ⌝ }
+{
+    if fields.total <= index {
+        return BAD_INDEX;
+    }
+    if !fragment_length(fields, index, content.len()) {
+        return BAD_FRAGMENT_LENGTH;
+    }
+    if !bitmap::marked(map, index as usize) {
+        return HANDLED;
+    }
+    repeat_number(fields, last, index, image, content)
 }
 
 // The completed bytes pass: the package has no check code, or it is theirs.
@@ -119,16 +144,23 @@ pub fn completion(stored: u16, last: u16, fields: Fields, image: &[u8]) -> u8
     }
 }
 
+// The first length for the last index, the second for any other.
+fn last_length(fields: Fields, index: u16, last: u16, other: u16) -> u16
+    ensures { λ r. ⌜ r ≡ lastAfter fields index last other ⌝ }
+{
+    if index as usize + 1 == fields.total as usize {
+        last
+    } else {
+        other
+    }
+}
+
 // 21: the length of the last fragment, once one more is stored.
 pub fn last_after(device: Device, index: u16, len: u16) -> u16
     ensures { λ r. ⌜ r ≡ lastAfter (device .fields) index len (device .last) ⌝ }
 {
     let fields = device.fields;
-    if index as usize + 1 == fields.total as usize {
-        len
-    } else {
-        device.last
-    }
+    last_length(fields, index, len, device.last)
 }
 
 // 23: what the order to install is answered with. A weak signal is no obstacle.

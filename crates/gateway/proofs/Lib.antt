@@ -4,4 +4,5 @@ pub mod Saying
 pub mod GuardedCalls
 pub mod RefusedStart
 pub mod Views
+pub mod Answered
 pub mod Cases

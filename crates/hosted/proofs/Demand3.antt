@@ -16,16 +16,16 @@ use Rattle.pcp.proofs.Carrying.{records-carried}
 use Rattle.upgrade.specs.Fold.{after, Allowed}
 use Rattle.upgrade.specs.Calls.{given, asked, finished, GatewayCall, Call, atDevice, atGateway, next, May}
 use Rattle.upgrade.specs.Records.{DeviceEnd, deviceNext, gatewayNext, records, World}
-use Rattle.upgrade.specs.Claims.{Executed, Installed, Ended, Success, reached, InstalledBefore, Demand3Of, InstallLengthOf}
+use Rattle.upgrade.specs.Claims.{Executed, Installed, answerTo, Ended, Success, reached, InstalledBefore, Demand3Of, RepeatsAgreeOf, InstallLengthOf}
 use Rattle.upgrade.specs.Demand3.{Ready, start, deviceThen, gatewayThen}
-use Rattle.upgrade.proofs.Demand3.{demand-3, install-length}
+use Rattle.upgrade.proofs.Demand3.{demand-3, repeats-agree, install-length}
 use Rattle.upgrade.proofs.Joined.{joined}
 use Rattle.hosted.specs.Hosts.{DeviceHost, deviceHostNext, gatewayHostNext, hosts, Hosts, Fitting, deviceSeen, seen, deviceCallAs, gatewayCallAs, callAs}
 use Rattle.hosted.specs.Hosted.{hostMade, HostMade, HostedBefore, deviceHostThen, gatewayHostThen, hostedStart, recordsBefore, HostedReady, HostedDemand3}
-use Rattle.hosted.specs.Hosted.{HostedUpgrade, HostedInstallLength}
+use Rattle.hosted.specs.Hosted.{HostedUpgrade, HostedRepeatsAgree, HostedInstallLength}
 use Rattle.hosted.proofs.Shown.{shown, allowed-shown, Split, split-shown, Headed, head-shown}
 use Rattle.hosted.proofs.Runs.{kept-room, device-room, device-next, device-says, device-number-is, gateway-room, gateway-next, still-fitting, one-call}
-use Rattle.hosted.proofs.Runs.{hosted-runs}
+use Rattle.hosted.proofs.Runs.{gateway-number-is, hosted-runs}
 
 -- ---- the two events, of hosts and of the records that they keep
 
@@ -132,6 +132,16 @@ module _ (content : List ℕ) (begin : Hosts) (fits : Fitting begin) where
         (subst (λ (w : World). Success (records content) w) (there calls) success)),
   )
 
+  -- a call is answered with the number of the same call over records
+  number-there : (h : Hosts) → Fitting h → (c : Call ℕ) → answerTo (hosts content) h c ≡ answerTo (records content) (seen h) (of c)
+  number-there h f (atDevice c) = device-number-is (h .deviceEnd) c (f .device)
+  number-there h f (atGateway c) = gateway-number-is content (h .gateway) c (f .gateway)
+
+  pub repeats-kept : RepeatsAgreeOf (records content) (seen begin) content → RepeatsAgreeOf (hosts content) begin content
+  repeats-kept agree calls a c m e =
+      agree (map of calls) (allowed-there calls a) (of c) (subst (λ (w : World). May w (of c)) (there calls) (may-there (At calls) c m))
+      (sym (number-there (At calls) (fitting-at calls) c ∙ ap (λ (w : World). answerTo (records content) w (of c)) (there calls)) ∙ e)
+
   pub length-kept : InstallLengthOf (records content) (seen begin) content → InstallLengthOf (hosts content) begin content
   length-kept long calls a earlier last split x =
       ap (λ (w : World). let d : Device = w .deviceEnd .device in d .fields .size * (d .fields .total - 1) + d .last) (there calls)
@@ -210,6 +220,11 @@ hosted-demand-3 b r =
 
 pub hosted-upgrade : HostedUpgrade
 hosted-upgrade b r = joined (hosts (b .content)) (hostedStart b) (b .content) (hosted-demand-3 b r)
+
+pub hosted-repeats-agree : HostedRepeatsAgree
+hosted-repeats-agree b r =
+    repeats-kept (b .content) (hostedStart b) (fitting b r)
+    (rw (started-there b r) (repeats-agree (recordsBefore b) (ready b r)))
 
 pub hosted-install-length : HostedInstallLength
 hosted-install-length b r =

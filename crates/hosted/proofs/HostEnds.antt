@@ -10,5 +10,8 @@ deviceHostSays h c = deviceHostDoes h c .says
 abbrev pub deviceHostNumber : DeviceHost → DeviceCall ℕ → ℕ
 deviceHostNumber h c = deviceHostDoes h c .number
 
+abbrev pub gatewayHostNumber : (content bytes : List ℕ) → GatewayCall ℕ → ℕ
+gatewayHostNumber content bytes c = gatewayHostDoes content bytes c .number
+
 abbrev pub gatewayHostSays : (content bytes : List ℕ) → GatewayCall ℕ → List (List ℕ)
 gatewayHostSays content bytes c = gatewayHostDoes content bytes c .says

@@ -18,9 +18,9 @@ use Rattle.pcp.proofs.Refusals.{device-number, device-ask-number, gateway-numbe
 use Rattle.pcp.proofs.Carrying.{records-carried}
 use Rattle.upgrade.specs.Calls.{aired, DeviceCall, given, asked, finished, GatewayCall, Call, atDevice, atGateway, next}
 use Rattle.upgrade.specs.Records.{deviceNext, gatewayNext, records, deviceDoes, gatewayDoes}
-use Rattle.upgrade.proofs.Ends.{deviceSays, deviceNumber, gatewaySays}
+use Rattle.upgrade.proofs.Ends.{deviceSays, deviceNumber, gatewaySays, gatewayNumber}
 use Rattle.hosted.specs.Hosts.{DeviceHost, deviceHostNext, deviceSeen, gatewayHostNext, hosts, Hosts, deviceHostDoes, gatewayHostDoes}
-use Rattle.hosted.proofs.HostEnds.{deviceHostSays, deviceHostNumber, gatewayHostSays}
+use Rattle.hosted.proofs.HostEnds.{deviceHostSays, deviceHostNumber, gatewayHostSays, gatewayHostNumber}
 use Rattle.hosted.specs.Hosts.{Fitting, seen, deviceCallAs, gatewayCallAs, callAs, HostedRuns}
 use Rattle.hosted.proofs.Shown.{shown}
 
@@ -134,6 +134,18 @@ module _ (content bytes : List ℕ) where
       let e : gatewayNextMessageOf bytes content reply ≡ askAnswer s = sym (long-enough gatewayLength bytes _ _ r) in
       ap (λ (g : Asked). aired (lengthIn (g .answer)) (g .reply)) e
       ∙ ap (λ (k : ℕ). aired k (s .buffer)) (length-in (s .number) (s .length) (gateway-ask-number (gatewayAt bytes) content reply))
+
+  pub gateway-number-is : (c : GatewayCall ℕ) → gatewayLength ≤ length bytes
+      → gatewayHostNumber content bytes c ≡ gatewayNumber content (gatewayAt bytes) (gatewayCallAs fact c)
+  unfolding gatewayHostDoes gatewayDoes gatewayReceiveOf gatewayNextMessageOf
+  gateway-number-is (GatewayCall.given supported pcp message reply) r =
+      let a : gateway.After = gateway.receiveOf (gatewayAt bytes) content reply (fact supported) (fact pcp) message in
+      ap (λ (g : GatewayGiven). numberIn (g .answer)) (sym (long-enough gatewayLength bytes _ _ r))
+      ∙ number-in (a .number) (a .length) (gateway-number (gatewayAt bytes) content reply (fact supported) (fact pcp) message)
+  gateway-number-is (GatewayCall.asked reply) r =
+      let s : Sent = gateway.nextMessageOf (gatewayAt bytes) content reply in
+      ap (λ (a : Asked). numberIn (a .answer)) (sym (long-enough gatewayLength bytes _ _ r))
+      ∙ number-in (s .number) (s .length) (gateway-ask-number (gatewayAt bytes) content reply)
 
 -- ---- both
 

@@ -13,7 +13,7 @@ use Rattle.pcp.specs.Exports.{fact, textOf, deviceNewOf, gatewayStartOf}
 use Rattle.upgrade.specs.Fold.{after}
 use Rattle.upgrade.specs.Calls.{DeviceCall, GatewayCall}
 use Rattle.upgrade.specs.Records.{World}
-use Rattle.upgrade.specs.Claims.{Demand3Of, UpgradeOf, InstallLengthOf}
+use Rattle.upgrade.specs.Claims.{Demand3Of, UpgradeOf, RepeatsAgreeOf, InstallLengthOf}
 use Rattle.upgrade.specs.Demand3.{Before, HeldIsPackage}
 use Rattle.upgrade.specs.Clean.{CleanRunOf}
 use Rattle.upgrade.specs.Counted.{CountOf, RoomOf}
@@ -77,12 +77,15 @@ module _ (b : HostedBefore) where
     pub offering : gatewayAt gatewayHostThen .phase ≡ offer
     pub held : HeldIsPackage recordsBefore
 
--- Demand 3, its halves joined, and the length to be installed: of what the hosts keep.
+-- Demand 3, its halves joined, no call answered 23, and the length to be installed: of what the hosts keep.
 abbrev pub HostedDemand3 : Type 0
 HostedDemand3 = (b : HostedBefore) → HostedReady b → Demand3Of (hosts (b .content)) (hostedStart b) (b .content)
 
 abbrev pub HostedUpgrade : Type 0
 HostedUpgrade = (b : HostedBefore) → HostedReady b → UpgradeOf (hosts (b .content)) (hostedStart b) (b .content)
+
+abbrev pub HostedRepeatsAgree : Type 0
+HostedRepeatsAgree = (b : HostedBefore) → HostedReady b → RepeatsAgreeOf (hosts (b .content)) (hostedStart b) (b .content)
 
 abbrev pub HostedInstallLength : Type 0
 HostedInstallLength = (b : HostedBefore) → HostedReady b → InstallLengthOf (hosts (b .content)) (hostedStart b) (b .content)

@@ -63,14 +63,7 @@ pub fn good_version(version: [u8; 16]) -> bool
 pub fn same_version(a: [u8; 16], b: [u8; 16]) -> bool
     ensures { λ r. ⌜ r ≡ same a b ⌝ }
 {
-    let mut i = 0;
-    while i < 16 {
-        if a[i] != b[i] {
-            return false;
-        }
-        i += 1;
-    }
-    true
+    basis::same_bytes(&a, &b)
 }
 
 // The text at a place of a message. A byte that is not there counts as 00.

@@ -77,7 +77,8 @@ module _ (d : Device) (image map reply : List ℕ) (s : DeviceTexts d) where
       by-cases P
       (λ _. by-cases P (λ _. same _ refl refl)
       (λ _. by-cases P (λ _. s)
-      (λ _. by-cases P (λ _. same _ refl refl) (λ _. s))))
+      (λ _. by-cases P (λ _. same _ refl refl)
+      (λ _. by-cases P (λ _. same _ refl refl) (λ _. s)))))
       (λ _. s)
   handled-texts condition (found (downloadReply result)) v =
       by-cases P (λ _. same _ refl refl) (λ _. by-cases P (λ _. same _ refl refl) (λ _. s))

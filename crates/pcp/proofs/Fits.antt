@@ -47,7 +47,8 @@ module _ (d : Device) (running : length (d .running) ≡ 16) where
         by-cases Short
         (λ _. by-cases Short (λ _. omega arith)
         (λ _. by-cases Short (λ _. omega arith)
-        (λ _. by-cases Short (λ _. omega arith) (λ _. omega arith))))
+        (λ _. by-cases Short (λ _. omega arith)
+        (λ _. by-cases Short (λ _. omega arith) (λ _. omega arith)))))
         (λ _. omega arith)
     handled-short condition (found (downloadReply result)) =
         by-cases Short (λ _. omega arith) (λ _. by-cases Short (λ _. omega arith) (λ _. omega arith))

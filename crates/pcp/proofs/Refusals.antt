@@ -1,14 +1,15 @@
--- Demand 1 at the boundary: any number but 0 leaves every buffer as it was. Assumes nothing.
+-- Demand 1 at the boundary: any number but 0 leaves every buffer as it was, but for the phase with 23. Assumes nothing.
 use Prim.Native.Nat.{ℕ, _<_, _≤_}
 use native.Mathlib.Omega.{arith}
 use mathlib.Core.Path.{_≡_, refl, sym, _∙_, ap, subst}
 use mathlib.Core.Bool.{Bool}
 use mathlib.Core.List.{List}
 use lib.Dec.{eqb}
-use lib.ListN.{length}
-use borrow.Author.Tests.{ne-eqb, leb-true}
+use lib.ListN.{length, set}
+use borrow.Author.Tests.{ne-eqb, eqb-false, leb-true}
 use Rattle.basis.specs.Choice.{pick}
-use Rattle.basis.specs.Bytes.{Bytes}
+use Rattle.basis.specs.Numbers.{repeatDiffers}
+use Rattle.basis.specs.Bytes.{Bytes, over}
 use Rattle.basis.proofs.Choosing.{by-cases, pick-no, refusal-among}
 use Rattle.message.specs.Messages.{DeviceMessage, query, announce, fragment, downloadReply, execute, resultReply, GatewayMessage, queryReply, announceReply}
 use Rattle.message.specs.Messages.{fragmentRequest, downloadReport, executeReply, resultReport, Table, Reading, found, refused, toDevice, toGateway}
@@ -16,22 +17,26 @@ use Rattle.codec.specs.Codec.{readOf, said}
 use Rattle.round_trips.specs.Demand2.{RoundTrips}
 use Rattle.round_trips.proofs.RoundTrip.{device-round-trip, gateway-round-trip}
 use Rattle.device_record.specs.declared.Device.{Device}
+use Rattle.device_record.specs.Record.{failed, inPhase}
 use Rattle.device.specs.declared.Finished.{Finished}
 use Rattle.device.specs.Rules as device
 use Rattle.gateway_record.specs.declared.Gateway.{Gateway}
 use Rattle.gateway.specs.Rules as gateway
-use Rattle.layout.specs.Layout.{deviceAt, deviceLength, gatewayAt, gatewayLength}
+use Rattle.layout.specs.Layout.{deviceBytes, deviceAt, deviceLength, gatewayAt, gatewayLength}
 use Rattle.layout.proofs.Identity.{identity}
 use Rattle.layout.proofs.Layouts.{kept-new}
 use Rattle.pcp.specs.Exports.{packed, Left, Asked, DeviceGiven, GatewayGiven, askAnswer, deviceNewOf, deviceReceiveOf, deviceNextMessageOf}
 use Rattle.pcp.specs.Exports.{deviceInstallFinishedOf, deviceKept, gatewayKept, gatewayStartOf, gatewayReceiveOf, gatewayNextMessageOf}
-use Rattle.pcp.specs.Boundary.{lengthIn, Refused, Demand1}
+use Rattle.pcp.specs.Boundary.{numberIn, lengthIn, Refused, LeftAlone, Demand1}
 
--- ---- refusals have numbers below 256
+-- ---- refusals have numbers below 256, and all but one of them leave the record alone
+
+abbrev Plain : ℕ → Type 0
+Plain n = (n < 256) × (n ≡ repeatDiffers → ⊥)
 
 abbrev Small : {M : Type 0} → Reading M → Type 0
 Small (found m) = Unit {0}
-Small (refused n) = n < 256
+Small (refused n) = Plain n
 
 read-small : (t : Table) → RoundTrips t → (supported pcp : Bool) (bytes : List ℕ) → Small (readOf t supported pcp bytes)
 read-small t trip supported pcp bytes = at (readOf t supported pcp bytes) refl
@@ -45,6 +50,14 @@ read-small t trip supported pcp bytes = at (readOf t supported pcp bytes) refl
 device-back : (bytes : List ℕ) → Bytes bytes → deviceLength ≤ length bytes → deviceKept bytes (deviceAt bytes) ≡ bytes
 device-back bytes b room = kept-new deviceLength _ bytes room ∙ identity .device-same bytes b room
 
+-- with another phase
+device-phase : (bytes : List ℕ) (phase : ℕ) → Bytes bytes → deviceLength ≤ length bytes
+    → deviceKept bytes (inPhase phase (deviceAt bytes)) ≡ set bytes 0 phase
+unfolding deviceBytes over
+device-phase bytes phase b room =
+    kept-new deviceLength (deviceBytes (inPhase phase (deviceAt bytes))) bytes room
+    ∙ ap (λ (l : List ℕ). set l 0 phase) (identity .device-same bytes b room)
+
 gateway-back : (bytes : List ℕ) → Bytes bytes → gatewayLength ≤ length bytes → gatewayKept bytes (gatewayAt bytes) ≡ bytes
 gateway-back bytes b room = kept-new gatewayLength _ bytes room ∙ identity .gateway-same bytes b room
 
@@ -57,10 +70,19 @@ unmade number new bytes h = pick-no _ _ _ (ne-eqb number 0 (λ e. h (omega arith
 module _ (d : Device) (image map reply : List ℕ) where
   pub data DeviceOutcome (a : device.After) : Type 0 where
     done : a .number ≡ 0 → DeviceOutcome a
-    declined : (n : ℕ) → n < 256 → a ≡ device.refuse d image map reply n → DeviceOutcome a
+    declined : (n : ℕ) → Plain n → a ≡ device.refuse d image map reply n → DeviceOutcome a
+    differed : a ≡ device.differ d image map reply → DeviceOutcome a
+
+  repeat-small : (index : ℕ) (bytes : List ℕ) → device.repeatNumber (d .fields) (d .last) index image bytes < 256
+  unfolding device.repeatNumber
+  repeat-small index bytes = by-cases (λ (n : ℕ). n < 256) (λ _. omega arith) (λ _. omega arith)
+
+  fragment-small : (index : ℕ) (bytes : List ℕ) → device.fragmentNumber (d .fields) (d .last) index image map bytes < 256
+  unfolding device.fragmentNumber
+  fragment-small index bytes = refusal-among (λ n. n < 256) _ (omega arith) (omega arith, (omega arith, (repeat-small index bytes, tt)))
 
   device-handled : (condition : ℕ) (r : Reading DeviceMessage) → Small r → DeviceOutcome (device.handle d image map reply condition r)
-  unfolding device.handle device.onQuery device.onAnnounce device.begin device.onFragment device.fragmentNumber device.store device.onDownloadReply
+  unfolding device.handle device.onQuery device.onAnnounce device.begin device.onFragment device.store device.onDownloadReply
       device.onExecute device.onResultReply
   device-handled condition (refused n) small = declined n small refl
   device-handled condition (found query) small = done refl
@@ -71,7 +93,8 @@ module _ (d : Device) (image map reply : List ℕ) where
       (λ _. by-cases DeviceOutcome (λ _. done refl)
       (λ _. by-cases DeviceOutcome (λ _. done refl)
       (λ _. by-cases DeviceOutcome (λ _. done refl)
-      (λ _. declined _ (refusal-among (λ n. n < 256) _ (omega arith) (omega arith)) refl))))
+      (λ _. by-cases DeviceOutcome (λ _. differed refl)
+      (λ e. declined _ (fragment-small index bytes, eqb-false _ repeatDiffers e) refl)))))
       (λ _. declined 9 (omega arith) refl)
   device-handled condition (found (downloadReply result)) small =
       by-cases DeviceOutcome (λ _. done refl) (λ _. by-cases DeviceOutcome (λ _. done refl) (λ _. declined 9 (omega arith) refl))
@@ -84,7 +107,7 @@ module _ (d : Device) (image map reply : List ℕ) where
   device-outcome supported pcp condition message =
       by-cases DeviceOutcome
       (λ _. device-handled condition (readOf toDevice supported pcp message) (read-small toDevice device-round-trip supported pcp message))
-      (λ _. declined _ (refusal-among (λ n. n < 256) _ (omega arith) (omega arith)) refl)
+      (λ _. declined _ (refusal-among Plain _ (omega arith) (omega arith)) refl)
 
   pub device-number : (supported pcp : Bool) (condition : ℕ) (message : List ℕ)
       → device.receiveOf d image map reply supported pcp condition message .number < 256
@@ -92,7 +115,8 @@ module _ (d : Device) (image map reply : List ℕ) where
     where
       at : (a : device.After) → DeviceOutcome a → a .number < 256
       at a (done e) = omega arith
-      at a (declined n small e) = rw e small
+      at a (declined n small e) = rw e (small .0)
+      at a (differed e) = rw e (omega arith)
 
 module _ (g : Gateway) (content reply : List ℕ) where
   pub data GatewayOutcome (a : gateway.After) : Type 0 where
@@ -102,7 +126,7 @@ module _ (g : Gateway) (content reply : List ℕ) where
   gateway-handled : (r : Reading GatewayMessage) → Small r → GatewayOutcome (gateway.handle g content reply r)
   unfolding gateway.handle gateway.onQueryReply gateway.onAnnounceReply gateway.onFragmentRequest gateway.onDownloadReport gateway.onExecuteReply
       gateway.onResultReport
-  gateway-handled (refused n) small = declined n small refl
+  gateway-handled (refused n) small = declined n (small .0) refl
   gateway-handled (found (queryReply result version)) small = by-cases GatewayOutcome (λ _. done refl) (λ _. declined 9 (omega arith) refl)
   gateway-handled (found (announceReply result)) small = by-cases GatewayOutcome (λ _. done refl) (λ _. declined 9 (omega arith) refl)
   gateway-handled (found (fragmentRequest version index)) small = done refl
@@ -139,10 +163,10 @@ module _ (t : Table) (reply : List ℕ) where
   said-number : (r : Reading (t .Message)) → Small r → said t r reply .number < 256
   unfolding said
   said-number (found m) small = omega arith
-  said-number (refused n) small = small
+  said-number (refused n) small = small .0
 
 -- behind a guard, what there is to say, or a number below 256
-guarded-small : {M : Type 0} (n : ℕ) (r : Reading M) → n < 256 → Small r → Small (pick (eqb n 0) r (refused n))
+guarded-small : {M : Type 0} (n : ℕ) (r : Reading M) → Plain n → Small r → Small (pick (eqb n 0) r (refused n))
 guarded-small n r h small = by-cases Small (λ _. small) (λ _. h)
 
 module _ (d : Device) (image map reply : List ℕ) where
@@ -156,13 +180,13 @@ module _ (d : Device) (image map reply : List ℕ) where
   unfolding device.nextMessageOf
   device-ask-refused =
       said-refused toGateway reply _
-      (guarded-small _ (device.wanted d map) (refusal-among (λ n. n < 256) _ (omega arith) (omega arith)) device-wanted)
+      (guarded-small _ (device.wanted d map) (refusal-among Plain _ (omega arith) (omega arith)) device-wanted)
 
   pub device-ask-number : device.nextMessageOf d image map reply .number < 256
   unfolding device.nextMessageOf
   device-ask-number =
       said-number toGateway reply _
-      (guarded-small _ (device.wanted d map) (refusal-among (λ n. n < 256) _ (omega arith) (omega arith)) device-wanted)
+      (guarded-small _ (device.wanted d map) (refusal-among Plain _ (omega arith) (omega arith)) device-wanted)
 
 module _ (g : Gateway) (content reply : List ℕ) where
   gateway-wanted : Small (gateway.wanted g)
@@ -173,13 +197,13 @@ module _ (g : Gateway) (content reply : List ℕ) where
   unfolding gateway.nextMessageOf
   gateway-ask-refused =
       said-refused toDevice reply _
-      (guarded-small _ (gateway.wanted g) (refusal-among (λ n. n < 256) _ (omega arith) (omega arith)) gateway-wanted)
+      (guarded-small _ (gateway.wanted g) (refusal-among Plain _ (omega arith) (omega arith)) gateway-wanted)
 
   pub gateway-ask-number : gateway.nextMessageOf g content reply .number < 256
   unfolding gateway.nextMessageOf
   gateway-ask-number =
       said-number toDevice reply _
-      (guarded-small _ (gateway.wanted g) (refusal-among (λ n. n < 256) _ (omega arith) (omega arith)) gateway-wanted)
+      (guarded-small _ (gateway.wanted g) (refusal-among Plain _ (omega arith) (omega arith)) gateway-wanted)
 
 -- ---- every call
 
@@ -189,18 +213,34 @@ Unkept bytes k = Refused (k .answer) → k .bytes ≡ bytes
 
 DeviceUntouched : (bytes image map reply : List ℕ) → DeviceGiven → Type 0
 DeviceUntouched bytes image map reply g =
-    Refused (g .answer) → (lengthIn (g .answer) ≡ 0) × (g .bytes ≡ bytes) × (g .image ≡ image) × (g .map ≡ map) × (g .reply ≡ reply)
+    LeftAlone (g .answer) → (lengthIn (g .answer) ≡ 0) × (g .bytes ≡ bytes) × (g .image ≡ image) × (g .map ≡ map) × (g .reply ≡ reply)
+
+-- 23: the phase alone
+DeviceFailed : (bytes image map reply : List ℕ) → DeviceGiven → Type 0
+DeviceFailed bytes image map reply g =
+    numberIn (g .answer) ≡ repeatDiffers
+    → (lengthIn (g .answer) ≡ 0) × (g .bytes ≡ set bytes 0 failed) × (g .image ≡ image) × (g .map ≡ map) × (g .reply ≡ reply)
+
+-- what a call leaves through bytes
+abbrev givenBy : (bytes : List ℕ) → device.After → DeviceGiven
+givenBy bytes a =
+    record { answer = packed (a .number) (a .length); bytes = deviceKept bytes (a .device); image = a .image; map = a .map; reply = a .reply }
 
 device-untouched : (bytes image map reply : List ℕ) → Bytes bytes → deviceLength ≤ length bytes → (a : device.After)
-    → DeviceOutcome (deviceAt bytes) image map reply a
-    → DeviceUntouched bytes image map reply
-    (record { answer = packed (a .number) (a .length); bytes = deviceKept bytes (a .device); image = a .image; map = a .map; reply = a .reply })
+    → DeviceOutcome (deviceAt bytes) image map reply a → DeviceUntouched bytes image map reply (givenBy bytes a)
 unfolding DeviceUntouched
-device-untouched bytes image map reply b room a (done e) h = absurd (h (omega arith))
+device-untouched bytes image map reply b room a (done e) h = absurd (h .0 (omega arith))
 device-untouched bytes image map reply b room a (declined n small e) h =
-    subst (λ (a : device.After). Refused (packed (a .number) (a .length)) → (lengthIn (packed (a .number) (a .length)) ≡ 0)
-    × (deviceKept bytes (a .device) ≡ bytes) × (a .image ≡ image) × (a .map ≡ map) × (a .reply ≡ reply)) (sym e)
-    (λ h. (omega arith, device-back bytes b room, refl, refl, refl)) h
+    rw e (omega arith, device-back bytes b room, refl, refl, refl)
+device-untouched bytes image map reply b room a (differed e) h = absurd (h .1 (rw e (omega arith)))
+
+device-failed : (bytes image map reply : List ℕ) → Bytes bytes → deviceLength ≤ length bytes → (a : device.After)
+    → DeviceOutcome (deviceAt bytes) image map reply a → DeviceFailed bytes image map reply (givenBy bytes a)
+unfolding DeviceFailed
+device-failed bytes image map reply b room a (done e) h = absurd (omega arith)
+device-failed bytes image map reply b room a (declined n small e) h =
+    absurd (small .1 (let k : numberIn (packed n 0) ≡ repeatDiffers = rw e at h in omega arith))
+device-failed bytes image map reply b room a (differed e) h = rw e (omega arith, device-phase bytes failed b room, refl, refl, refl)
 
 GatewayUntouched : (bytes reply : List ℕ) → GatewayGiven → Type 0
 GatewayUntouched bytes reply g = Refused (g .answer) → (lengthIn (g .answer) ≡ 0) × (g .bytes ≡ bytes) × (g .reply ≡ reply)
@@ -219,10 +259,17 @@ gateway-untouched bytes content reply b room a (declined n small e) h =
 -- the record, where a call is refused
 
 device-returned : (d : Device) (image map reply : List ℕ) (a : device.After) → DeviceOutcome d image map reply a → (a .number ≡ 0 → ⊥)
-    → a ≡ device.refuse d image map reply (a .number)
-device-returned d image map reply a (done e) h = absurd (h e)
-device-returned d image map reply a (declined n small e) h =
+    → (a .number ≡ repeatDiffers → ⊥) → a ≡ device.refuse d image map reply (a .number)
+device-returned d image map reply a (done e) h k = absurd (h e)
+device-returned d image map reply a (declined n small e) h k =
     e ∙ ap (device.refuse d image map reply) (sym (ap (λ (x : device.After). x .number) e))
+device-returned d image map reply a (differed e) h k = absurd (k (ap (λ (x : device.After). x .number) e))
+
+device-returned-failed : (d : Device) (image map reply : List ℕ) (a : device.After) → DeviceOutcome d image map reply a → a .number ≡ repeatDiffers
+    → a ≡ device.differ d image map reply
+device-returned-failed d image map reply a (done e) h = absurd (omega arith)
+device-returned-failed d image map reply a (declined n small e) h = absurd (small .1 (sym (ap (λ (x : device.After). x .number) e) ∙ h))
+device-returned-failed d image map reply a (differed e) h = e
 
 gateway-returned : (g : Gateway) (content reply : List ℕ) (a : gateway.After) → GatewayOutcome g content reply a → (a .number ≡ 0 → ⊥)
     → a ≡ gateway.refuse g content reply (a .number)
@@ -237,7 +284,7 @@ finished-returned d code =
 
 pub demand-1 : Demand1
 unfolding deviceNewOf deviceReceiveOf deviceNextMessageOf deviceInstallFinishedOf gatewayStartOf gatewayReceiveOf gatewayNextMessageOf Unkept Unsaid
-    DeviceUntouched GatewayUntouched
+    DeviceUntouched DeviceFailed GatewayUntouched
 demand-1 =
     record {
       device-new = λ bytes version. by-cases (Unkept bytes) (λ _ h. unmade _ _ bytes h) (λ _ h. refl);
@@ -245,6 +292,10 @@ demand-1 =
           by-cases (DeviceUntouched bytes image map reply)
           (λ t. device-untouched bytes image map reply b (leb-true _ _ t) _ (device-outcome (deviceAt bytes) image map reply _ _ condition message))
           (λ _ h. (omega arith, refl, refl, refl, refl));
+      device-differs = λ bytes image map reply supported pcp condition message b.
+          by-cases (DeviceFailed bytes image map reply)
+          (λ t. device-failed bytes image map reply b (leb-true _ _ t) _ (device-outcome (deviceAt bytes) image map reply _ _ condition message))
+          (λ _ h. absurd (omega arith));
       device-next-message = λ bytes image map reply.
           by-cases (Unsaid toGateway reply) (λ _. device-ask-refused (deviceAt bytes) image map reply) (λ _ h. (omega arith, refl));
       device-install-finished = λ bytes code b.
@@ -259,6 +310,8 @@ demand-1 =
           by-cases (Unsaid toDevice reply) (λ _. gateway-ask-refused (gatewayAt bytes) content reply) (λ _ h. (omega arith, refl));
       device-record = λ d image map reply supported pcp condition message.
           device-returned d image map reply _ (device-outcome d image map reply supported pcp condition message);
+      device-record-differs = λ d image map reply supported pcp condition message.
+          device-returned-failed d image map reply _ (device-outcome d image map reply supported pcp condition message);
       device-finished-record = finished-returned;
       gateway-record = λ g content reply supported pcp message.
           gateway-returned g content reply _ (gateway-outcome g content reply supported pcp message);

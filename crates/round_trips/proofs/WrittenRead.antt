@@ -1,5 +1,5 @@
 -- What is heard is what was said: the bytes of a message, valid or not, are read as that message or refused. Assumes nothing.
-use Prim.Native.Nat.{ℕ, _+_, _*_, _/_, _%_}
+use Prim.Native.Nat.{ℕ, _+_, _*_, _/_, _%_, _≤_}
 use native.Mathlib.Nat.{div-add-mod'}
 use native.Mathlib.Omega.{arith}
 use mathlib.Core.Path.{_≡_, refl, sym, _∙_, ap, ap₂, subst}
@@ -10,7 +10,7 @@ use lib.Seq.{take-at, drop-at}
 use Rattle.basis.specs.Choice.{pick}
 use Rattle.basis.specs.Bytes.{wordAt, wordBytes}
 use Rattle.message.specs.declared.Fields.{Fields}
-use Rattle.message.specs.Messages.{DeviceMessage, deviceFields, GatewayMessage, gatewayFields, Table, toDevice, toGateway, found, deviceRow}
+use Rattle.message.specs.Messages.{DeviceMessage, deviceFields, GatewayMessage, gatewayFields, Table, toDevice, toGateway, found, refused, deviceRow}
 use Rattle.message.specs.Messages.{gatewayRow}
 use Rattle.codec.specs.Codec.{sealed, frame, bytesOf, readOf}
 use Rattle.round_trips.proofs.RoundTrip.{FoundIn, Tells, read-tells}
@@ -19,6 +19,9 @@ module _ (t : Table) (supported pcp : Bool) where
   -- what a reading tells
   pub read : (bytes : List ℕ) (m : t .Message) → readOf t supported pcp bytes ≡ found m → FoundIn t supported pcp bytes m
   read bytes m e = subst (Tells t supported pcp bytes) e (read-tells t supported pcp bytes)
+
+  pub read-refused : (bytes : List ℕ) (n : ℕ) → readOf t supported pcp bytes ≡ refused n → n ≤ 8
+  read-refused bytes n e = subst (Tells t supported pcp bytes) e (read-tells t supported pcp bytes) .1
 
 -- data stands for one message of its code
 pub Told : Table → Type 0

@@ -19,9 +19,9 @@ use Rattle.device.specs.Rules.{After, announceResult, resumes, receiveOf, nextM
 use Rattle.device.proofs.Holds.{Rule}
 use Rattle.device.proofs.Views
 use Rattle.device.proofs.Views.{receive-does, install-does}
-use Rattle.device.proofs.Sound.{Download, Sound, sound-record, sound-room, sound-under, sound-begun, sound-stored, sound-idle, sound-moved, sound-executed}
-use Rattle.device.proofs.Sound.{sound-outcome, sound-does}
-use Rattle.device.proofs.Not29Not14.{heard-most, ask-neither, install-neither}
+use Rattle.device.proofs.Sound.{Download, Sound, sound-record, sound-room, sound-under, sound-begun, sound-stored, sound-differs, sound-idle, sound-moved}
+use Rattle.device.proofs.Sound.{sound-executed, sound-outcome, sound-does}
+use Rattle.device.proofs.Not29Not14.{heard-neither, ask-neither, install-neither}
 use Rattle.device.proofs.Guarded.{asking-passed, receiving-passed}
 
 -- of the image's bytes nothing is asked
@@ -110,6 +110,8 @@ kept-does d image map input o (Views.stores condition index bytes i st e) room k
       sound = sound-stored free d image map index bytes st tt
           (sound-lent d (k .image) image map (λ _. loading-room d image map room (st .phase)) (k .sound));
     })
+kept-does d image map input o (Views.differs condition index bytes i p r e) room k =
+    rw e (record { image = k .image; sound = sound-differs free d (k .image) map p (k .sound) })
 kept-does d image map input o (Views.moves phase m e) room k =
     rw e (record { image = k .image; sound = sound-moved free d (k .image) map input phase (moves-lent d (k .image) image map input phase m) (k .sound) })
 kept-does d image map input o (Views.executes condition i p e) room k =
@@ -153,7 +155,7 @@ module _ (d : Device) (image map reply : List ℕ) where
       → Not29 (receiveOf d image map reply supported pcp condition message .number)
   unfolding receiveOf refusal
   given-unmet supported pcp condition message e =
-      by-cases (λ (a : After). Not29 (a .number)) (λ _. omega (arith, heard-most d image map reply supported pcp condition message))
+      by-cases (λ (a : After). Not29 (a .number)) (λ _. heard-neither d image map reply supported pcp condition message .0)
       (λ _. by-cases Not29 (λ _. by-cases Not29 (λ _. tests-unmet e) (λ _. omega arith)) (λ _. omega arith))
 
   said-unmet : (r : Reading GatewayMessage) → Unmet r → Not29 (said toGateway r reply .number)

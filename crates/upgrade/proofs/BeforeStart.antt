@@ -10,6 +10,7 @@ use lib.Dec.{eqb}
 use lib.ListN.{replicate}
 use borrow.Author.Tests.{ne-eqb}
 use Rattle.basis.specs.Choice.{pick}
+use Rattle.basis.specs.Numbers.{repeatDiffers}
 use Rattle.basis.proofs.Choosing.{by-cases, pick-no, pick-yes}
 use Rattle.message.specs.declared.Fields.{Fields}
 use Rattle.message.specs.Version.{goodVersion}
@@ -19,7 +20,7 @@ use Rattle.device_record.specs.Record.{idle, loaded, acked, fresh, newOf}
 use Rattle.device.specs.Rules.{announceResult, resumes}
 use Rattle.device.proofs.Views
 use Rattle.device.proofs.Views.{Input, hears, asks, installs, Out}
-use Rattle.device.proofs.Sound.{sound-fresh, sound-begun, sound-stored, sound-moved, sound-executed, sound-outcome}
+use Rattle.device.proofs.Sound.{sound-fresh, sound-begun, sound-stored, sound-differs, sound-moved, sound-executed, sound-outcome}
 use Rattle.device.proofs.Standing.{standing, standing-under, stored-new}
 use Rattle.upgrade.specs.Fold.{after}
 use Rattle.upgrade.specs.Calls.{DeviceCall, given, asked, finished}
@@ -85,8 +86,8 @@ held-installs e n code input h i = rw i
 
 still-held : (e : DeviceEnd) (h : Held) (input : Input) (n : ℕ) (says : List (List ℕ)) → StillAt e input n says → heldOn e n input h ≡ h
 unfolding heldOn heldBy
-still-held e h input n says (Views.refuses z s) = held-refused e n input h z
-still-held e h input n says (Views.unread c i s) = held-same e n c (refused n) input h i refl
+still-held e h input n says (Views.refuses z k s) = held-refused e n input h z
+still-held e h input n says (Views.unread c i l s) = held-same e n c (refused n) input h i refl
 still-held e h input n says (Views.skips c index bytes i z s) =
     held-same e n c (found (fragment 0x81 index bytes)) input h i (held-fragment e c 0x81 index bytes h (λ z. omega arith))
 still-held e h input n says (Views.queried c i z s) = held-same e n c (found query) input h i refl
@@ -165,6 +166,10 @@ module _ (e : DeviceEnd) (h : Held) (l : Lived e h) (input : Input) where
   lived-does o (Views.begins c a i b q) =
       subst Then (sym q) (lived-begins c a i b)
   lived-does o (Views.stores c index bytes i s q) = subst Then (sym q) (lived-stores c index bytes i s)
+  lived-does o (Views.differs c index bytes i p r q) =
+      subst Then (sym q)
+      (lived-on _ (held-refused e repeatDiffers input h (λ z. omega arith)) refl (λ _ z. omega arith)
+      (sound-differs (standing (Among (h .fragments))) (e .device) (e .image) (e .map) p (l .sound)))
   lived-does o (Views.moves phase m q) =
       subst Then (sym q)
       (lived-on _ (moves-held e h input phase 0 m) refl (before (moves-to e input phase m))

@@ -20,6 +20,7 @@ use Rattle.device_record.specs.declared.Device.{Device}
 use Rattle.device_record.specs.Record as device
 use Rattle.bitmap.specs.Bitmap.{mark, cleared}
 use Rattle.device.specs.Rules as device-rules
+use Rattle.device_decisions.proofs.Tested.{new-one}
 use Rattle.device.proofs.Standing.{standing}
 use Rattle.device.proofs.Sound.{sound-record}
 use Rattle.gateway_record.specs.Record as gateway
@@ -95,9 +96,8 @@ module _ (s : Setting) where
         (omega (arith, eqb-false (k + 1) (total s) n))))
 
     -- neither past the last, nor of a wrong length, nor stored already
-    tested : device-rules.fragmentNumber (fields s) k (length bytes) map ≡ 0
-    unfolding device-rules.fragmentNumber refusal pick
-    tested = rw (lt-ltb k (total s) more, long, new (s .content) (s .size) (some s) k image map front more)
+    tested : device-rules.fragmentNumber (fields s) (loading .device .last) k image map bytes ≡ 0
+    tested = new-one (fields s) (loading .device .last) k image map bytes more long (new (s .content) (s .size) (some s) k image map front more)
 
     stored : (reply : List ℕ) → deviceTakes loading (fragment 0x00 k bytes) reply ≡ storing reply
     unfolding device-rules.handle device-rules.onFragment pick

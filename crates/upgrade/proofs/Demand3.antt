@@ -10,6 +10,7 @@ use lib.Dec.{leb}
 use lib.ListN.{length, take, drop, getD}
 use borrow.Author.Tests.{leb-true}
 use Rattle.basis.specs.Choice.{pick}
+use Rattle.basis.specs.Numbers.{repeatDiffers}
 use Rattle.basis.proofs.Choosing.{and-left}
 use Rattle.checksum.specs.Check.{checkOf}
 use Rattle.message.specs.declared.Fields.{Fields}
@@ -25,23 +26,24 @@ use Rattle.gateway_record.specs.declared.Gateway.{Gateway}
 use Rattle.gateway_record.specs.Record as gateway
 use Rattle.message.specs.Limits.{sizeOk}
 use Rattle.device_record.proofs.Ranges.{size-range}
+use Rattle.gateway.proofs.Answered.{receive-other, ask-other}
 use Rattle.gateway.proofs.Views.{turned-keeps}
 use Rattle.gateway_record.proofs.Package.{starts, started-fields, total-covers, below-total, total-some, fragment-is}
 use Rattle.upgrade.specs.Fold.{after, Allowed}
 use Rattle.upgrade.specs.Calls.{DeviceCall, given, asked, finished, GatewayCall, Call, atDevice, atGateway, next, May}
-use Rattle.upgrade.specs.Records.{DeviceEnd, gatewayNext, World, records}
+use Rattle.upgrade.specs.Records.{DeviceEnd, deviceDoes, gatewayDoes, gatewayNext, World, records}
 use Rattle.upgrade.specs.Claims.{Executed, reached, ExecutedImage, InstalledBefore}
-use Rattle.upgrade.specs.Demand3.{Before, made, deviceThen, gatewayThen, heldThen, Ready, start, Demand3, Upgrade, InstallLength}
+use Rattle.upgrade.specs.Demand3.{Before, made, deviceThen, gatewayThen, heldThen, Ready, start, Demand3, Upgrade, RepeatsAgree, InstallLength}
 use Rattle.upgrade.proofs.Folds.{after-append, allowed-front, allowed-rest, always}
 use Rattle.upgrade.proofs.Air.{air-none}
 use Rattle.upgrade.proofs.Run.{Plan, Stretch, Run, untaken, taken, run-later}
-use Rattle.upgrade.proofs.DeviceCalls.{StillAt, DoesAt, holding-busy, inputOf, outIn, call-does, next-is, says-is}
+use Rattle.upgrade.proofs.DeviceCalls.{StillAt, DoesAt, holding-busy, inputOf, outIn, call-does, next-is, says-is, number-is}
 use Rattle.upgrade.proofs.GatewaySteps.{heardIn, gateway-turns}
 use Rattle.upgrade.proofs.DeviceSteps.{not-success}
 use Rattle.upgrade.proofs.BeforeStart.{Among, Lived, lived, lived-fresh}
 use Rattle.upgrade.proofs.History.{ExecutedIn, executed-later, executed-now, installed-later, installed-now}
 use Rattle.upgrade.proofs.Joined.{joined}
-use Rattle.upgrade.proofs.Worlds.{device-hears, gateway-keeps, device-keeps}
+use Rattle.upgrade.proofs.Worlds.{device-hears, device-other, gateway-keeps, device-keeps}
 
 -- ---- Execute answered 00: the phases in which it is, and that the image stays
 
@@ -58,8 +60,8 @@ size-some size e = omega (arith, size-range size e)
 
 module _ (e : DeviceEnd) (condition : ℕ) (input : Input) (i : input ≡ hears condition (found execute)) where
   still-answered : (n : ℕ) (says : List (List ℕ)) → says ≡ spoken (executeReply 0x00) → StillAt e input n says → Full (e .device)
-  still-answered n says s (Views.refuses z q) = absurd (let z : _≡_ {A = ℕ} 0 1 = cc in omega arith)
-  still-answered n says s (Views.unread c j q) = absurd (let z : _≡_ {A = ℕ} 0 1 = cc in omega arith)
+  still-answered n says s (Views.refuses z k q) = absurd (let z : _≡_ {A = ℕ} 0 1 = cc in omega arith)
+  still-answered n says s (Views.unread c j l q) = absurd (let z : _≡_ {A = ℕ} 0 1 = cc in omega arith)
   still-answered n says s (Views.skips c index bytes j z q) = absurd (let z : _≡_ {A = ℕ} 0 1 = cc in omega arith)
   still-answered n says s (Views.queried c j z q) = absurd (let z : _≡_ {A = ℕ} 0 1 = cc in omega arith)
   still-answered n says s (Views.declines c a result j r nz z q) = absurd (let z : _≡_ {A = ℕ} 0 1 = cc in omega arith)
@@ -75,6 +77,7 @@ module _ (e : DeviceEnd) (condition : ℕ) (input : Input) (i : input ≡ hears 
   answered o s (Views.still n says x q) = (still-answered n says (sym (ap (λ (z : Out). z .says) q) ∙ s) x, ap (λ (z : Out). z .image) q)
   answered o s (Views.begins c a j b q) = absurd (let z : _≡_ {A = ℕ} 0 1 = cc in omega arith)
   answered o s (Views.stores c index bytes j x q) = absurd (let z : _≡_ {A = ℕ} 0 1 = cc in omega arith)
+  answered o s (Views.differs c index bytes j l r q) = absurd (let z : _≡_ {A = ℕ} 0 1 = cc in omega arith)
   answered o s (Views.moves phase m q) = absurd (silent (sym (ap (λ (z : Out). z .says) q) ∙ s))
     where
       silent : [] ≡ spoken (executeReply 0x00) → ⊥
@@ -91,6 +94,7 @@ module _ (e : DeviceEnd) (condition : ℕ) (input : Input) (i : input ≡ hears 
   answered-kept o (Views.still n says x q) = (ap (λ (z : Out). z .device .fields) q, ap (λ (z : Out). z .device .last) q)
   answered-kept o (Views.begins c a j b q) = absurd (let z : _≡_ {A = ℕ} 0 1 = cc in omega arith)
   answered-kept o (Views.stores c index bytes j x q) = absurd (let z : _≡_ {A = ℕ} 0 1 = cc in omega arith)
+  answered-kept o (Views.differs c index bytes j l r q) = absurd (let z : _≡_ {A = ℕ} 0 1 = cc in omega arith)
   answered-kept o (Views.moves phase m q) = (ap (λ (z : Out). z .device .fields) q, ap (λ (z : Out). z .device .last) q)
   answered-kept o (Views.executes c j l q) = (ap (λ (z : Out). z .device .fields) q, ap (λ (z : Out). z .device .last) q)
   answered-kept o (Views.reports code j l ok q) = (ap (λ (z : Out). z .device .fields) q, ap (λ (z : Out). z .device .last) q)
@@ -290,6 +294,15 @@ module _ (b : Before) (ready : Ready b) where
 pub demand-3 : Demand3
 demand-3 b ready calls a =
     (executed-image b ready calls a, λ s. success b ready (worldAfter b calls) (inv b ready calls a .run) (s .0) (s .1))
+
+pub repeats-agree : RepeatsAgree
+unfolding deviceDoes gatewayDoes
+repeats-agree b ready calls a (atDevice c) m =
+    subst (λ (n : ℕ). n ≡ repeatDiffers → ⊥) (sym (number-is (worldAfter b calls .deviceEnd) c))
+    (device-other (plan b ready) (worldAfter b calls) _ _ c m (inv b ready calls a .run))
+repeats-agree b ready calls a (atGateway (GatewayCall.given supported pcp message reply)) m =
+    receive-other (worldAfter b calls .gateway) (b .content) reply supported pcp message
+repeats-agree b ready calls a (atGateway (GatewayCall.asked reply)) m = ask-other (worldAfter b calls .gateway) (b .content) reply
 
 pub install-length : InstallLength
 install-length b ready calls a earlier last split x = executed-whole b ready calls a earlier last split x .long

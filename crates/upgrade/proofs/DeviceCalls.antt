@@ -17,11 +17,11 @@ use Rattle.device_record.specs.Record.{idle, loading, loaded, acked, failed, in
 use Rattle.bitmap.specs.Bitmap.{cleared}
 use Rattle.device.specs.Rules.{announceResult, completion}
 use Rattle.device.proofs.Views
-use Rattle.device.proofs.Views.{Input, hears, asks, installs, Out, out, spoken, storedOut, receiveOut, askOut, installOut, Begins, Resumes, Stores, Still}
+use Rattle.device.proofs.Views.{Input, hears, asks, installs, Out, out, spoken, storedOut, receiveOut, askOut, installOut, Begins, Resumes, Stores, Repeats, Still}
 use Rattle.device.proofs.Views.{Moves, Does, receive-does, ask-does, install-does}
 use Rattle.upgrade.specs.Calls.{DeviceCall, given, asked, finished, aired}
 use Rattle.upgrade.specs.Records.{DeviceEnd, deviceNext, deviceDoes}
-use Rattle.upgrade.proofs.Ends.{deviceSays}
+use Rattle.upgrade.proofs.Ends.{deviceSays, deviceNumber}
 
 -- the end that a call leaves
 abbrev pub endOf : Out → DeviceEnd
@@ -42,6 +42,9 @@ ResumesAt e = Resumes (e .device) (e .image) (e .map)
 
 abbrev pub StoresAt : DeviceEnd → (index : ℕ) → List ℕ → Type 0
 StoresAt e = Stores (e .device) (e .image) (e .map)
+
+abbrev pub RepeatsAt : DeviceEnd → (index : ℕ) → List ℕ → Type 0
+RepeatsAt e = Repeats (e .device) (e .image) (e .map)
 
 abbrev pub MovesAt : DeviceEnd → Input → (phase : ℕ) → Type 0
 MovesAt e = Moves (e .device) (e .image) (e .map)
@@ -91,6 +94,12 @@ unfolding deviceDoes aired
 says-is e (given supported pcp condition message reply) = refl
 says-is e (asked reply) = refl
 says-is e (finished code) = refl
+
+pub number-is : (e : DeviceEnd) (c : DeviceCall Bool) → deviceNumber e c ≡ outIn e c .number
+unfolding deviceDoes
+number-is e (given supported pcp condition message reply) = refl
+number-is e (asked reply) = refl
+number-is e (finished code) = refl
 
 -- a phase to which the device moves without a word
 abbrev pub Moved : Device → (phase : ℕ) → Type 0

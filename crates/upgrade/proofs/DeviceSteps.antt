@@ -11,10 +11,10 @@ use Rattle.basis.proofs.Lists.{same-eq}
 use Rattle.message.specs.declared.Fields.{Fields}
 use Rattle.message.specs.Messages.{DeviceMessage, announce, fragment, execute, GatewayMessage, announceReply, executeReply, found, toDevice, toGateway}
 use Rattle.device_record.specs.declared.Device.{Device}
-use Rattle.device_record.specs.Record.{failed, installing, reporting, holding}
+use Rattle.device_record.specs.Record.{loading, failed, installing, reporting, holding}
 use Rattle.device.proofs.Images.{drop-patched, place-within}
 use Rattle.device.proofs.Sound.{sound-begun}
-use Rattle.device.proofs.Standing.{standing, standing-does, standing-under}
+use Rattle.device.proofs.Standing.{standing, repeats-same, standing-does, standing-under}
 use Rattle.device.proofs.Views
 use Rattle.device.proofs.Views.{Input, hears, installs, Out, spoken}
 use Rattle.gateway_record.specs.declared.Gateway.{Gateway}
@@ -22,7 +22,7 @@ use Rattle.gateway_record.specs.Record as gateway
 use Rattle.gateway_record.proofs.Package.{stretch-fits, stretch-within}
 use Rattle.upgrade.specs.Records.{DeviceEnd, World}
 use Rattle.upgrade.proofs.Air.{Air, air-none, air-one, air-map, air-more}
-use Rattle.upgrade.proofs.DeviceCalls.{endOf, DoesAt, StillAt, BeginsAt, ResumesAt, StoresAt, stillAt, begunAt, storedAt, movedAt, outcomeAt, Moved}
+use Rattle.upgrade.proofs.DeviceCalls.{endOf, DoesAt, StillAt, BeginsAt, ResumesAt, StoresAt, RepeatsAt, stillAt, begunAt, storedAt, movedAt, outcomeAt, Moved}
 use Rattle.upgrade.proofs.DeviceCalls.{moves-to, holding-below, completion-low, other-version}
 use Rattle.upgrade.proofs.Run.{Plan, SoundEnd, NotEnded, Offering, Stretch, RunsTarget, GatewaySaid, DeviceSaid, more-served, more-said, Untaken, Taken}
 use Rattle.upgrade.proofs.Run.{Run, untaken, taken}
@@ -54,8 +54,8 @@ module _ (p : Plan) (e : DeviceEnd) {success : Type 0}
 
   still-said : (input : Input) (n : ℕ) (says : List (List ℕ)) → StillAt e input n says
       → (Resumption e input × Air toGateway (DeviceSaid p (Unit {0}) success) says) ⊎ Quiet says
-  still-said input n says (Views.refuses z e) = inr (quiet says e)
-  still-said input n says (Views.unread c i e) = inr (quiet says e)
+  still-said input n says (Views.refuses z k e) = inr (quiet says e)
+  still-said input n says (Views.unread c i l e) = inr (quiet says e)
   still-said input n says (Views.skips c index bytes i z e) = inr (quiet says e)
   still-said input n says (Views.queried c i z e) = inr (one _ says tt e)
   still-said input n says (Views.declines c a result i r nz z e) = inr (one _ says nz e)
@@ -89,6 +89,14 @@ package-past p f image index bytes e room below stretch =
     rw b (stretch-within (p .content) (f .size) index (rw e (p .size-some)) counted) in
     drop-patched (index * f .size) bytes image (omega (arith, place-within (f .size) (f .total) index (length bytes) below fits))
     (length (p .content)) within
+
+-- a fragment that comes again is the package's stretch, as what stands in its place is
+pub repeats-agree : (p : Plan) (w : World) {E I : Type 0} → Taken p w E I → (input : Input) → Brought (GatewaySaid p (Unit {0})) input
+    → (condition index : ℕ) (bytes : List ℕ) → input ≡ hears condition (found (fragment 0x00 index bytes))
+    → w .deviceEnd .device .phase ≡ loading → RepeatsAt (w .deviceEnd) index bytes → ⊥
+repeats-agree p w t input h c index bytes i l r =
+    repeats-same (Stretch p) (w .deviceEnd .device) (w .deviceEnd .image) (w .deviceEnd .map) (λ _ a b x y. x ∙ sym y) index bytes (t .sound) l r
+    (h c (fragment 0x00 index bytes) i refl .1)
 
 module _ (p : Plan) (w : World) {E E′ I I′ : Type 0} (j : E → E′) (k : I → I′) where
   abbrev e : DeviceEnd
@@ -184,6 +192,7 @@ module _ (p : Plan) (w : World) {E E′ I I′ : Type 0} (j : E → E′) (k : I
       untaken-next (Views.still n says s q) = subst Next (sym q) (still-untaken input h n says s)
       untaken-next (Views.begins c a i b q) = subst Next (sym q) (begins-untaken c a (h c (announce a) i) b)
       untaken-next (Views.stores c index bytes i s q) = absurd (h c (fragment 0x00 index bytes) i refl .0)
+      untaken-next (Views.differs c index bytes i l r q) = absurd (h c (fragment 0x00 index bytes) i refl .0)
       untaken-next (Views.moves phase m q) = subst Next (sym q) (moves-untaken phase (moves-to e input phase m))
       untaken-next (Views.executes c i l q) = absurd (h c execute i)
       untaken-next (Views.reports code i l ok q) = subst Next (sym q) (reports-untaken code _ l)
@@ -278,6 +287,7 @@ module _ (p : Plan) (w : World) {E E′ I I′ : Type 0} (j : E → E′) (k : I
       taken-next (Views.begins c a i b q) = subst Then (sym q) (begins-taken a (h c (announce a) i))
       taken-next (Views.stores c index bytes i s q) =
           subst Then (sym q) (stores-taken index bytes (h c (fragment 0x00 index bytes) i refl .1) s)
+      taken-next (Views.differs c index bytes i l r q) = absurd (repeats-agree p w t input h c index bytes i l r)
       taken-next (Views.moves phase m q) = subst Then (sym q) (moves-taken phase (moves-to e input phase m))
       taken-next (Views.executes c i l q) = subst Then (sym q) (executes-taken (x c i (ap (λ (z : Out). z .says) q)))
       taken-next (Views.reports code i l ok q) =

@@ -12,5 +12,8 @@ deviceSays e c = deviceDoes e c .says
 abbrev pub deviceNumber : DeviceEnd → DeviceCall Bool → ℕ
 deviceNumber e c = deviceDoes e c .number
 
+abbrev pub gatewayNumber : (content : List ℕ) → Gateway → GatewayCall Bool → ℕ
+gatewayNumber content g c = gatewayDoes content g c .number
+
 abbrev pub gatewaySays : (content : List ℕ) → Gateway → GatewayCall Bool → List (List ℕ)
 gatewaySays content g c = gatewayDoes content g c .says

@@ -2,21 +2,23 @@
 use Prim.Native.Nat.{ℕ}
 use native.Mathlib.Omega.{arith}
 use mathlib.Core.Bool.{Bool}
-use mathlib.Core.Path.{_≡_, _∙_}
+use mathlib.Core.Path.{_≡_, refl, _∙_}
 use mathlib.Core.List.{List}
-use Rattle.message.specs.Messages.{DeviceMessage, execute, GatewayMessage, executeReply, found, toDevice, toGateway}
+use Rattle.basis.specs.Numbers.{repeatDiffers}
+use Rattle.message.specs.Messages.{DeviceMessage, fragment, execute, GatewayMessage, executeReply, found, toDevice, toGateway}
 use Rattle.codec.specs.Codec.{readOf}
 use Rattle.round_trips.proofs.WrittenRead.{device-told, gateway-told}
-use Rattle.device.proofs.Views.{hears, installs, spoken}
+use Rattle.device_record.specs.Record.{loading}
+use Rattle.device.proofs.Views.{hears, installs, spoken, does-other}
 use Rattle.gateway_record.specs.Record as gateway
 use Rattle.upgrade.specs.Calls.{DeviceCall, given, asked, finished, GatewayCall, atDevice, atGateway, next, May}
 use Rattle.upgrade.specs.Records.{World, records, deviceDoes}
 use Rattle.upgrade.specs.Claims.{Executed, Installed}
 use Rattle.upgrade.proofs.Air.{Air, Heard, air-heard}
 use Rattle.upgrade.proofs.Run.{Plan, NotEnded, Run, untaken, taken}
-use Rattle.upgrade.proofs.DeviceCalls.{inputOf, outIn, call-does, next-is, says-is}
+use Rattle.upgrade.proofs.DeviceCalls.{RepeatsAt, inputOf, outIn, call-does, next-is, says-is}
 use Rattle.upgrade.proofs.GatewaySteps.{heardIn, untaken-turn, taken-turn}
-use Rattle.upgrade.proofs.DeviceSteps.{Brought, untaken-does, taken-does}
+use Rattle.upgrade.proofs.DeviceSteps.{Brought, repeats-agree, untaken-does, taken-does}
 
 -- ---- what an end is given is on the air
 
@@ -58,6 +60,16 @@ module _ (w : World) where
 -- ---- a call
 
 module _ (p : Plan) (w : World) where
+  -- none is answered 23
+  pub device-other : (E I : Type 0) (c : DeviceCall Bool) → May w (atDevice c) → Run p w E I → outIn (w .deviceEnd) c .number ≡ repeatDiffers → ⊥
+  device-other E I c m r = does-other (w .deviceEnd .device) (w .deviceEnd .image) (w .deviceEnd .map) (inputOf c) (outIn (w .deviceEnd) c)
+      (call-does (w .deviceEnd) c) (agree r)
+    where
+      agree : Run p w E I → (condition index : ℕ) (bytes : List ℕ) → inputOf c ≡ hears condition (found (fragment 0x00 index bytes))
+          → w .deviceEnd .device .phase ≡ loading → RepeatsAt (w .deviceEnd) index bytes → ⊥
+      agree (untaken u) k index bytes i l x = device-hears w c (u .said) m k (fragment 0x00 index bytes) i refl .0
+      agree (taken t) k index bytes i l x = repeats-agree p w t (inputOf c) (device-hears w c (t .said) m) k index bytes i l x
+
   pub gateway-keeps : {E I : Type 0} (c : GatewayCall Bool) → w .gateway .fields ≡ p .offer → May w (atGateway c) → Run p w E I
       → Run p (next (records (p .content)) w (atGateway c)) E I
   gateway-keeps c o m (untaken u) = untaken (untaken-turn p w c o u (gateway-hears w c (u .heard) m))

@@ -3,6 +3,7 @@ use Prim.Native.Nat.{ℕ}
 use mathlib.Core.Path.{_≡_}
 use mathlib.Core.List.{List, [], _∷_, _++_}
 use lib.ListN.{length, take, drop}
+use Rattle.basis.specs.Numbers.{repeatDiffers}
 use Rattle.message.specs.Messages.{execute, executeReply, found, toDevice, toGateway}
 use Rattle.codec.specs.Codec.{bytesOf, readOf}
 use Rattle.device_record.specs.declared.Device.{Device}
@@ -27,6 +28,11 @@ module _ (e : Ends) where
   Installed w (atDevice (asked reply)) = ⊥
   Installed w (atDevice (finished code)) = (code ≡ 0x00) × (e .device .does (w .deviceEnd) (finished code) .number ≡ 0)
   Installed w (atGateway c) = ⊥
+
+  -- The number with which a call is answered.
+  abbrev pub answerTo : Both e → Call (e .Fact) → ℕ
+  answerTo w (atDevice c) = e .device .does (w .deviceEnd) c .number
+  answerTo w (atGateway c) = e .gateway .does (w .gateway) c .number
 
   -- The gateway is Ended.
   abbrev pub Ended : Both e → Type 0
@@ -91,6 +97,10 @@ module _ (e : Ends) where
       -- installer's end with 00 after that
       abbrev pub UpgradeOf : Type 0
       UpgradeOf = Always (λ calls. Success (reached calls) → UpgradedBefore calls)
+
+      -- no call that may be made is answered 23: what comes again is what was stored (02, 2026-06)
+      abbrev pub RepeatsAgreeOf : Type 0
+      RepeatsAgreeOf = Always (λ calls. (c : Call (e .Fact)) → May (reached calls) c → answerTo (reached calls) c ≡ repeatDiffers → ⊥)
 
       -- what is there to be installed is as long as the package
       abbrev pub InstallLengthOf : Type 0

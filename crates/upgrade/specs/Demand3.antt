@@ -10,7 +10,7 @@ use Rattle.upgrade.specs.Fold.{after}
 use Rattle.upgrade.specs.Calls.{DeviceCall, GatewayCall}
 use Rattle.upgrade.specs.Records.{DeviceEnd, deviceNext, gatewayNext, records, World}
 use Rattle.upgrade.specs.Held.{Held, heldAfter}
-use Rattle.upgrade.specs.Claims.{Demand3Of, UpgradeOf, InstallLengthOf}
+use Rattle.upgrade.specs.Claims.{Demand3Of, UpgradeOf, RepeatsAgreeOf, InstallLengthOf}
 
 -- Before the start: the device made fresh, then any list of its calls; the gateway started on the package, and its calls.
 pub record Before : Type 0 where
@@ -62,6 +62,10 @@ Demand3 = (b : Before) → Ready b → Demand3Of (records (b .content)) (start b
 abbrev pub Upgrade : Type 0
 Upgrade = (b : Before) → Ready b → UpgradeOf (records (b .content)) (start b) (b .content)
 
--- Beside it: what is there to be installed is as long as the package.
+-- Beside it: no call after the start is answered 23.
+abbrev pub RepeatsAgree : Type 0
+RepeatsAgree = (b : Before) → Ready b → RepeatsAgreeOf (records (b .content)) (start b) (b .content)
+
+-- And what is there to be installed is as long as the package.
 abbrev pub InstallLength : Type 0
 InstallLength = (b : Before) → Ready b → InstallLengthOf (records (b .content)) (start b) (b .content)

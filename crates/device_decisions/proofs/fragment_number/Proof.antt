@@ -1,43 +1,47 @@
--- `device_decisions::fragment_number` meets its contract: 10, 11 and 12 by tests that are the rule's in their order. Assumes nothing.
+-- `device_decisions::fragment_number` meets its contract: 10, 11, and 12 or 23 by tests that are the rule's in their order. Assumes nothing.
+use mathlib.Core.Path.{sym, _∙_}
 use borrow.Author.Needs.{needs}
-use Rattle.basis.specs.Choice.{refusal}
-use Rattle.device_decisions.specs.Decisions.{fragmentNumber}
+use borrow.Author.Tests.{not-true, not-false}
+use Rattle.device_decisions.proofs.Tested.{past-total, wrong-length, new-one, repeated}
 use Rattle.device_decisions.proofs.fragment_number.Statement.{statement}
 use Rattle.device_decisions.proofs.fragment_number.Tie as tie
+
+returns : tie.Need-returns
+returns c = sym (past-total _ _ _ _ _ _ (c .if1 .taken))
 
 fragment-length-requires : tie.Need-fragment-length-requires
 fragment-length-requires c κs = search needs
 
+returns-2 : tie.Need-returns-2
+returns-2 c = sym (wrong-length _ _ _ _ _ _ (c .before .before .if1 .left) (sym (c .before .fragment-length .ensures) ∙ not-true _ (c .if2 .taken)))
+
 marked-requires : tie.Need-marked-requires
 marked-requires c κs = search needs
 
-unless-requires : tie.Need-unless-requires
-unless-requires c κs = search needs
+returns-3 : tie.Need-returns-3
+returns-3 c =
+    sym (new-one _ _ _ _ _ _ (c .before .before .before .before .if1 .left)
+    (sym (c .before .before .before .fragment-length .ensures) ∙ not-false _ (c .before .before .if2 .left))
+    (sym (c .before .marked .ensures) ∙ not-true _ (c .if3 .taken)))
 
-unless-requires-2 : tie.Need-unless-requires-2
-unless-requires-2 c κs = search needs
+repeat-number-requires : tie.Need-repeat-number-requires
+repeat-number-requires c κs = search needs
 
-unless-requires-3 : tie.Need-unless-requires-3
-unless-requires-3 c κs = search needs
-
-returns : tie.Need-returns
-unfolding fragmentNumber refusal
-returns c =
-    rw (
-      c .unless3 .ensures,
-      c .before .unless2 .ensures,
-      c .before .before .unless .ensures,
-      c .before .before .before .marked .ensures,
-      c .before .before .before .before .fragment-length .ensures,
-    )
+returns-4 : tie.Need-returns-4
+returns-4 c =
+    c .repeat-number .ensures
+    ∙ sym (repeated _ _ _ _ _ _ (c .before .before .before .before .before .if1 .left)
+    (sym (c .before .before .before .before .fragment-length .ensures) ∙ not-false _ (c .before .before .before .if2 .left))
+    (sym (c .before .before .marked .ensures) ∙ not-false _ (c .before .if3 .left)))
 
 pub fragment-number-spec : {M : Type 1} → statement M
 fragment-number-spec =
     tie.close
     (tie.spec
+    returns
     fragment-length-requires
+    returns-2
     marked-requires
-    unless-requires
-    unless-requires-2
-    unless-requires-3
-    returns)
+    returns-3
+    repeat-number-requires
+    returns-4)

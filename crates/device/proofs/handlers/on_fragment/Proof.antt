@@ -4,7 +4,7 @@ use mathlib.Core.Path.{sym, _∙_}
 use Rattle.device_decisions.proofs.Tested.{fragment-passed}
 use Rattle.message.proofs.ToDevice.{enum}
 use Rattle.codec.proofs.Leading.{unexpected, no-other}
-use Rattle.device.proofs.Fragments.{not-loading, stopped, unknown, refused-first, stores}
+use Rattle.device.proofs.Fragments.{not-loading, stopped, unknown, differs, refused-first, stores}
 use Rattle.device.proofs.Readings.{leaves, of-fragment}
 use Rattle.device.proofs.handlers.on_fragment.Statement.{statement}
 use Rattle.device.proofs.handlers.on_fragment.Tie as tie
@@ -62,45 +62,74 @@ returns-4 c = (
 fragment-number-requires : tie.Need-fragment-number-requires
 fragment-number-requires c κs = search needs
 
+in-phase-requires-2 : tie.Need-in-phase-requires-2
+in-phase-requires-2 c κs = search needs
+
 refused-requires-3 : tie.Need-refused-requires-3
 refused-requires-3 c κs = search needs
 
 same-length : tie.Need-same-length
 same-length c = search needs
 
+same-length-2 : tie.Need-same-length-2
+same-length-2 c = search needs
+
 returns-5 : tie.Need-returns-5
 returns-5 c =
-    let r = c .before .before .before .before .before in
+    let r = c .before .before .before .before .before .before .before in
     let t = r .before .before .before .before .before in
     let s = t .before .before .before .before .before in (
       of-fragment _ _ _ _ (t .message .given .1)
-          (λ p. c .refused3 .ensures _ _ p ∙ sym (refused-first _ _ _ p _ _ (s .args .content .now)
-          (r .before .before .if1 .left) (r .before .if2 .left) (r .if3 .left) _ (c .before .before .fragment-number .ensures) (c .before .if4 .taken))),
+          (λ p. c .refused3 .ensures _ _ p ∙ rw (c .before .in-phase2 .ensures) (sym (differs _ _ _ p _ _ (s .args .content .now)
+          (r .before .before .if1 .left) (r .before .if2 .left) (r .if3 .left) _ (c .before .before .before .fragment-number .ensures)
+          (c .before .before .if4 .taken)))),
+      λ n e p. no-other enum _ _ 3 e tt (t .before .match .keys1),
+    )
+
+refused-requires-4 : tie.Need-refused-requires-4
+refused-requires-4 c κs = search needs
+
+same-length-3 : tie.Need-same-length-3
+same-length-3 c = search needs
+
+same-length-4 : tie.Need-same-length-4
+same-length-4 c = search needs
+
+returns-6 : tie.Need-returns-6
+returns-6 c =
+    let r = c .before .before .before .before .before .before .before in
+    let t = r .before .before .before .before .before in
+    let s = t .before .before .before .before .before in (
+      of-fragment _ _ _ _ (t .message .given .1)
+          (λ p. c .refused4 .ensures _ _ p ∙ sym (refused-first _ _ _ p _ _ (s .args .content .now)
+          (r .before .before .if1 .left) (r .before .if2 .left) (r .if3 .left) _ (c .before .before .before .fragment-number .ensures)
+          (c .before .if5 .taken) (c .before .before .if4 .left))),
       λ n e p. no-other enum _ _ 3 e tt (t .before .match .keys1),
     )
 
 store-requires : tie.Need-store-requires
 store-requires c κs =
-    let s = c .before .before .before .before .before .before .before .before .before .before .before .before .before .before .before .before in
-    let (below, long, _) = fragment-passed _ _ _ (s .args .map .now)
-    (sym (c .before .before .before .fragment-number .ensures) ∙ c .before .before .if4 .left) in
-    (s .pre .0, (c .before .before .before .before .before .before .before .before .if1 .left, (s .pre .1, (below, long))))
+    let r = c .before .before .before .before .before .before .before .before in
+    let s = r .before .before .before .before .before .before .before .before .before .before in
+    let f = fragment-passed _ _ _ (s .args .image .now) (s .args .map .now) (s .args .content .now)
+    (sym (c .before .before .before .before .fragment-number .ensures) ∙ c .before .before .if5 .left) in
+    (s .pre .0, (r .before .before .if1 .left, (s .pre .1, (f .below, f .long))))
 
-same-length-2 : tie.Need-same-length-2
-same-length-2 c = search needs
+same-length-5 : tie.Need-same-length-5
+same-length-5 c = search needs
 
-same-length-3 : tie.Need-same-length-3
-same-length-3 c = search needs
+same-length-6 : tie.Need-same-length-6
+same-length-6 c = search needs
 
-returns-6 : tie.Need-returns-6
-returns-6 c =
+returns-7 : tie.Need-returns-7
+returns-7 c =
     let r = c .before .before .before .before .before .before .before in
-    let t = r .before .before .before .before in
+    let t = r .before .before .before .before .before .before in
     let u = t .before .before .before .before .before in
     let s = u .before .before .before .before .before in (
       of-fragment _ _ _ _ (u .message .given .1)
           (λ p. c .before .before .before .before .store .ensures p ∙ sym (stores _ _ _ p _ _ (s .args .content .now)
-          (t .before .before .if1 .left) (t .before .if2 .left) (t .if3 .left) _ (r .before .fragment-number .ensures) (r .if4 .left))),
+          (t .before .before .if1 .left) (t .before .if2 .left) (t .if3 .left) _ (r .before .before .fragment-number .ensures) (r .if5 .left))),
       λ n e p. no-other enum _ _ 3 e tt (u .before .match .keys1),
     )
 
@@ -120,10 +149,16 @@ on-fragment-spec =
     moved-requires-2
     returns-4
     fragment-number-requires
+    in-phase-requires-2
     refused-requires-3
     same-length
-    returns-5
-    store-requires
     same-length-2
+    returns-5
+    refused-requires-4
     same-length-3
-    returns-6)
+    same-length-4
+    returns-6
+    store-requires
+    same-length-5
+    same-length-6
+    returns-7)

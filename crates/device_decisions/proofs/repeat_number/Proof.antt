@@ -1,0 +1,46 @@
+-- `device_decisions::repeat_number` meets its contract: the stored part of the image is what the rule compares with. Assumes nothing.
+use borrow.Author.Needs.{needs}
+use Rattle.device_decisions.specs.Decisions.{repeatNumber}
+use Rattle.device_decisions.proofs.repeat_number.Statement.{statement}
+use Rattle.device_decisions.proofs.repeat_number.Tie as tie
+
+last-length-requires : tie.Need-last-length-requires
+last-length-requires c κs = search needs
+
+product-requires : tie.Need-product-requires
+product-requires c κs = search needs
+
+cast-part-of : tie.Need-cast-part-of
+cast-part-of c = search needs
+
+part-of-requires : tie.Need-part-of-requires
+part-of-requires c κs = search needs
+
+same-bytes-requires : tie.Need-same-bytes-requires
+same-bytes-requires c κs = search needs
+
+pick-requires : tie.Need-pick-requires
+pick-requires c κs = search needs
+
+returns : tie.Need-returns
+unfolding repeatNumber
+returns c =
+    rw (
+      c .pick .ensures,
+      c .before .same-bytes .ensures,
+      c .before .before .part-of .ensures .bytes,
+      c .before .before .before .product .ensures,
+      c .before .before .before .before .last-length .ensures,
+    )
+
+pub repeat-number-spec : {M : Type 1} → statement M
+repeat-number-spec =
+    tie.close
+    (tie.spec
+    last-length-requires
+    product-requires
+    cast-part-of
+    part-of-requires
+    same-bytes-requires
+    pick-requires
+    returns)
