@@ -181,16 +181,20 @@
    Each call gives a number: 0 (PCP_HANDLED), or why the call was refused.  The
    tests are made in the order that the function's comment names, and the first
    that fails gives the number.  A refused call has changed nothing: record,
-   image, map and reply are as they were, and the reply's length is 0.  On 0 the
-   reply, if there is one, fills the front of its buffer; the rest stays.  No
-   bytes that arrive, from wherever, lead to anything else.
+   image, map and reply are as they were, and the reply's length is 0.  The one
+   exception is 23 (PCP_REPEAT_DIFFERS) of pcp_device_receive: it makes the
+   phase Failed, and changes nothing else.  On 0 the reply, if there is one,
+   fills the front of its buffer; the rest stays.  No bytes that arrive, from
+   wherever, lead to anything else.
 
    1 to 12 are part of normal work: what arrived is of no use and is dropped, or
    an end that was asked has nothing to send (PCP_NO_USE).  Of these, 1 and 2
    repeat what the host states of the device, and 9 from
-   pcp_device_install_finished says that no installation is under way.  The
-   higher numbers are mistakes of the host, in what it lends or states: the same
-   call again gets the same number.
+   pcp_device_install_finished says that no installation is under way.  23 says
+   that fragments of two builds have met: the device has given the download up,
+   and has to be asked, so that it tells its gateway.  The other higher numbers
+   are mistakes of the host, in what it lends or states: the same call again
+   gets the same number.
 
    A number is not a result.  Number 0 with a reply whose byte 8 is 01 is a
    message that was handled, and answered no.
@@ -263,7 +267,7 @@
 
    At the device.  Lend record and map in RAM.  Storage holds the image, and two
    slots for record and map, each with a counter and a check over all of it (a
-   CRC-32, say).  After a call that gave 0 and changed the record:
+   CRC-32, say).  After a call that changed the record:
 
      1. Write the bytes of the image that the call wrote (image_at and
         image_length of the answer), if the image itself is not in storage.
@@ -417,7 +421,8 @@
                record, sizeof record, 1, 1, condition_now(), bytes, length,
                image, sizeof image, map, sizeof map, reply, sizeof reply);
 
-           if (answer.number != PCP_HANDLED)
+           if (answer.number != PCP_HANDLED &&
+               answer.number != PCP_REPEAT_DIFFERS)
                return;
            if (answer.changed)
                save(answer.image_at, answer.image_length);
@@ -567,7 +572,8 @@ enum {
                                      to send */
     PCP_BAD_INDEX = 10,           /* no fragment of the download held */
     PCP_BAD_FRAGMENT_LENGTH = 11, /* not size long (the last: longer) */
-    PCP_ALREADY_STORED = 12,      /* this fragment is there already */
+    PCP_ALREADY_STORED = 12,      /* this fragment is there already, with the
+                                     same bytes */
     PCP_UNKNOWN_CONDITION = 13,   /* none of the conditions below */
     PCP_BAD_MEMORY = 14,          /* device, in Loading, Loaded and Acked: image
                                      or map shorter than the download needs;
@@ -582,6 +588,10 @@ enum {
                                      PCP_SIZE_MAX */
     PCP_BAD_PACKAGE = 19,         /* package empty, or longer than 65,535
                                      fragments */
+    PCP_REPEAT_DIFFERS = 23,      /* this fragment is there already, with other
+                                     bytes or another length: the phase is now
+                                     Failed.  Save, and ask, so that the gateway
+                                     is told by a 22 with 07 */
     PCP_BAD_RECORD = 29,          /* the record breaks its rules, see below; or
                                      a device in Loading is asked, and its map
                                      has no fragment missing.  Make a new one,
@@ -938,7 +948,8 @@ static inline uint8_t pcp_device_new(uint8_t *record, size_t record_length,
      enough; if not, the reply says so, the number is 0 and nothing has changed.
      It resumes the download held, if that is the same, or replaces it.
    - 21 stores a fragment; with the last that was missing, the image is tested:
-     Loaded, or Failed.
+     Loaded, or Failed.  One that is stored is compared: 12 if it is the same,
+     23 and Failed if not.
    - 22 and 24 are the gateway's answers to download result and report: Acked,
      and Idle.  80 in 21 or 22 says that there is no such upgrade: Idle, and the
      download is given up.
@@ -946,7 +957,7 @@ static inline uint8_t pcp_device_new(uint8_t *record, size_t record_length,
      answered 00 there again; in all other phases it is answered 01.  The host
      that sees this phase after a call with number 0 installs, see "What a host
      does".
-   Numbers: 64, 15, 13, 29, 14, 1 to 8, 9, 10, 11, 12. */
+   Numbers: 64, 15, 13, 29, 14, 1 to 8, 9, 10, 11, 12 or 23. */
 static inline pcp_answer pcp_device_receive(
     uint8_t *record, size_t record_length, int supported, int pcp,
     int condition, const uint8_t *message, size_t message_length,
@@ -965,10 +976,11 @@ static inline pcp_answer pcp_device_receive(
         pcp_not_null_buffer(image, image_length), image_length,
         pcp_not_null_buffer(map, map_length), map_length,
         pcp_not_null_buffer(reply, reply_length), reply_length));
-    if (answer.number != PCP_HANDLED)
+    if (answer.number != PCP_HANDLED && answer.number != PCP_REPEAT_DIFFERS)
         return answer;
     answer.changed = memcmp(before, record, sizeof before) != 0;
-    if (message[3] == PCP_FRAGMENT && message[8] == 0x00) { /* was stored */
+    if (answer.number == PCP_HANDLED && message[3] == PCP_FRAGMENT &&
+        message[8] == 0x00) { /* was stored */
         answer.image_length = (uint16_t)(message_length - 11);
         answer.image_at =
             (uint32_t)pcp_word(message + 9) * pcp_device_size(record);

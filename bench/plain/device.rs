@@ -189,9 +189,11 @@ impl Device {
         let size = usize::from(self.size);
         require(data.len() == size || (is_last && data.len() < size), number::BAD_FRAGMENT_LENGTH)?;
         let (byte, bit) = (usize::from(index / 8), 1 << (index % 8));
-        require(map[byte] & bit == 0, number::ALREADY_STORED)?;
-
         let at = usize::from(index) * size;
+        if map[byte] & bit != 0 {
+            let length = if is_last { self.last.into() } else { size };
+            return Err(self.repeated(data == &image[at..at + length]));
+        }
         image[at..at + data.len()].copy_from_slice(data);
         map[byte] |= bit;
         self.stored += 1;
@@ -202,6 +204,14 @@ impl Device {
             self.complete(image);
         }
         Ok(&[])
+    }
+
+    fn repeated(&mut self, is_same: bool) -> u8 {
+        if is_same {
+            return number::ALREADY_STORED;
+        }
+        self.phase = FAILED;
+        number::REPEAT_DIFFERS
     }
 
     fn complete(&mut self, image: &[u8]) {

@@ -32,6 +32,7 @@ pub mod number {
     pub const BAD_INDEX: u8 = 10;
     pub const BAD_FRAGMENT_LENGTH: u8 = 11;
     pub const ALREADY_STORED: u8 = 12;
+    pub const REPEAT_DIFFERS: u8 = 23;
     pub const UNKNOWN_CONDITION: u8 = 13;
     pub const BAD_MEMORY: u8 = 14;
     pub const SHORT_REPLY: u8 = 15;

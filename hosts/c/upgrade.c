@@ -149,7 +149,7 @@ static bool link_take(struct link *link, unsigned long now,
    something wrong, and going on would not mend it. */
 static void note_number(const char *call, uint8_t number)
 {
-    if (number < PCP_UNKNOWN_CONDITION)
+    if (number < PCP_UNKNOWN_CONDITION || number == PCP_REPEAT_DIFFERS)
         return;
     fprintf(stderr, "upgrade: %s refused with %u\n", call, (unsigned)number);
     exit(EXIT_FAILURE);
@@ -220,8 +220,9 @@ static void device_install(struct device *device, unsigned long now)
     device->installed_at = now + INSTALLATION;
 }
 
-/* The phase is looked at only when the number is 0: a record that was refused
-   may be none.  A device that is to go on after a restart would save, if the
+/* A repeat that differs changes the record too, to Failed, and is told when the
+   device is asked.  The phase is looked at only when the number is 0: a record
+   that was refused may be none.  A device that is to go on after a restart would save, if the
    record has changed, before it sends the reply; pcp.h has an example of that.
    Only a changed record is a reason to ask at once: a host that asked after
    every arrival would double all that follows a repeated message. */
@@ -236,11 +237,11 @@ static void device_receive(struct device *device, struct link *link,
 
     note_number("pcp_device_receive", answer.number);
     device_count(device, message, answer, reply);
+    if (answer.changed)
+        device->ask_at = now;
     if (answer.number != PCP_HANDLED)
         return;
     link_send(link, now, GATEWAY, reply, answer.length);
-    if (answer.changed)
-        device->ask_at = now;
     if (pcp_device_phase(device->record) == PCP_DEVICE_INSTALLING)
         device_install(device, now);
 }

@@ -10,7 +10,8 @@
 //!   [`next_message`](Device::next_message) to ask what it has to send, [`install_finished`](Device::install_finished)
 //! - [`Gateway`] is the gateway's: [`start`](Gateway::start), [`receive`](Gateway::receive),
 //!   [`next_message`](Gateway::next_message)
-//! - a call gives an answer, or a [`Refusal`], and then it has changed nothing
+//! - a call gives an answer, or a [`Refusal`], and then it has changed nothing, but for
+//!   [`RepeatDiffers`](Refusal::RepeatDiffers)
 //!
 //! # An upgrade
 //!
@@ -104,7 +105,8 @@
 //!
 //! # What can be relied on
 //!
-//! Any bytes may arrive: a call answers, or refuses and has changed nothing. Let both ends use this library, and the
+//! Any bytes may arrive: a call answers, or refuses and has changed nothing, or the phase alone
+//! ([`RepeatDiffers`](Refusal::RepeatDiffers), which does not occur under what follows). Let both ends use this library, and the
 //! hosts keep to these duties, so that nothing reaches either end but what the other sent after the gateway came to
 //! Offer, undamaged. Then, whatever is lost, repeated, delayed or reordered: when the device answers 23 with `00`, its
 //! image begins with the gateway's package; and when the gateway ends with [`Success`](Ending::Success), the device's
@@ -131,7 +133,12 @@
 //!         let mut reply = [0; DEVICE_REPLY];
 //!         let (image, map) = (&mut self.image, &mut self.map);
 //!         let answer =
-//!             self.device.receive(Facts::BOTH, Condition::Ready, message, image, map, &mut reply)?;
+//!             self.device.receive(Facts::BOTH, Condition::Ready, message, image, map, &mut reply);
+//!         if answer == Err(Refusal::RepeatDiffers) {
+//!             store_record(self.device.record(), &self.map); // the one refusal that changes it
+//!             ask_soon();
+//!         }
+//!         let answer = answer?;
 //!         if let Some(place) = answer.written {
 //!             store_image(place.start, &self.image[place]);
 //!         }
@@ -447,12 +454,14 @@ impl Ending {
 }
 
 bytes_named! {
-    /// Why a call was refused. It has then changed nothing, and there is nothing to send. The tests are made in the
-    /// order that the call names, and the first that fails gives the refusal.
+    /// Why a call was refused. It has then changed nothing, and there is nothing to send; but RepeatDiffers has brought
+    /// the device to Failed. The tests are made in the order that the call names, and the first that fails gives the
+    /// refusal.
     ///
     /// Up to AlreadyStored they are daily work: the message is dropped. Unsupported and OtherProtocol repeat the facts
     /// that the host stated; BadStart may be other traffic on the port; BadCheck is damage, and the message will come
-    /// again; NoUse and AlreadyStored are late or repeated messages. The others are faults of the host or its memory,
+    /// again; NoUse and AlreadyStored are late or repeated messages. On RepeatDiffers a fragment came that is stored with
+    /// other bytes, so that two builds have met: save, and ask, so that the gateway is told by a 22 with `07`. The others are faults of the host or its memory,
     /// see [`is_hosts_fault`](Refusal::is_hosts_fault): on BadMemory it lends what it lent before, and if it cannot, or
     /// on BadRecord, begins anew with [`Device::new`] or [`Gateway::start`]. UnknownCondition, BadInstallCode and
     /// ShortRecord come from [`raw`] calls only.
@@ -477,6 +486,7 @@ bytes_named! {
         BadVersionText = 17: "bad version text",
         BadSize = 18: "fragment size not from 32 to 1024",
         BadPackage = 19: "package empty, or longer than 65,535 fragments",
+        RepeatDiffers = 23: "fragment already stored with other bytes: the download has failed",
         BadRecord = 29: "not a record, or not this map's",
         ShortRecord = 64: "record buffer too short",
     }
@@ -486,7 +496,7 @@ impl Refusal {
     /// Not part of the daily work: the host lends or states something wrong, or the package or its memory is at fault.
     /// To be told to a person or a log: the same call again gets the same refusal.
     pub fn is_hosts_fault(self) -> bool {
-        self >= Refusal::UnknownCondition
+        self >= Refusal::UnknownCondition && self != Refusal::RepeatDiffers
     }
 }
 
@@ -684,7 +694,8 @@ impl Device {
     /// - 23 brings Loaded or Acked to Installing, see [`to_install`](Device::to_install).
     ///
     /// Refusals: ShortReply below [`DEVICE_REPLY`]; BadMemory in Loading, Loaded and Acked; those of [`recognise`];
-    /// BadData, NoUse, BadIndex, BadFragmentLength, AlreadyStored.
+    /// BadData, NoUse, BadIndex, BadFragmentLength, AlreadyStored. RepeatDiffers, in the place of AlreadyStored, for a
+    /// fragment that is stored with other bytes or another length: the device is then in Failed.
     pub fn receive<'r>(
         &mut self,
         facts: Facts,

@@ -236,6 +236,10 @@ impl DeviceHost {
         let (image, map) = (&mut self.image, &mut self.map);
         let answer = self.device.receive(Facts::BOTH, condition, message, image, map, &mut reply);
         self.repeated += u64::from(answer == Err(Refusal::AlreadyStored));
+        // The one refusal that changes the record: to Failed, which is told when the device is asked.
+        if answer == Err(Refusal::RepeatDiffers) {
+            self.ask_at = now;
+        }
         let answer = match expected("Device::receive", answer)? {
             Some(answer) => answer,
             None => return Ok(()),

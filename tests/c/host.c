@@ -672,8 +672,8 @@ typedef struct {
 
 /* How often the random calls met a case that the test is about. */
 static struct {
-    unsigned long stored, short_last, reserved, changed, unchanged, refused,
-        phases[7];
+    unsigned long stored, short_last, reserved, repeated, differed, changed,
+        unchanged, refused, phases[7];
 } met;
 
 static void set_word(size_t at, unsigned value)
@@ -695,7 +695,8 @@ static size_t make_announcement(void)
     return length;
 }
 
-/* Mostly one that the download held has a place for. */
+/* Mostly one that the download held has a place for, and at times with the bytes
+   that stand there. */
 static size_t make_fragment(const device *d)
 {
     unsigned size = pcp_device_size(d->record);
@@ -705,6 +706,8 @@ static size_t make_fragment(const device *d)
 
     message[8] = 0x00;
     set_word(9, index);
+    if (below(4) > 0 && (size_t)index * size + data <= ROOM)
+        memcpy(message + 11, d->image + (size_t)index * size, data);
     if (below(40) == 0) {
         static const uint8_t result[] = {0x80, 0x81, 0x82};
 
@@ -770,6 +773,8 @@ static void note_met(pcp_answer answer, const device *d)
     met.short_last += answer.image_length > 0 &&
                       answer.image_length < pcp_device_size(d->record);
     met.reserved += answer.number == PCP_HANDLED && message[2] != 1;
+    met.repeated += answer.number == PCP_ALREADY_STORED;
+    met.differed += answer.number == PCP_REPEAT_DIFFERS;
     met.changed += answer.changed;
     met.unchanged += answer.number == PCP_HANDLED && !answer.changed;
     met.refused += answer.number != PCP_HANDLED;
@@ -788,13 +793,23 @@ static void try_answer(device *d)
     for (size_t i = 0; i < ROOM; i++)
         other.image[i] ^= 0xFF;
     again = give(&other, length, condition, room);
-    expect("number with another image", answer.number, again.number, message,
-           length);
+    if (answer.number == PCP_ALREADY_STORED) /* then every byte differs */
+        expect("repeat with another image", PCP_REPEAT_DIFFERS, again.number,
+               message, length);
+    else if (answer.number != PCP_REPEAT_DIFFERS)
+        expect("number with another image", answer.number, again.number,
+               message, length);
     expect("changed", (unsigned)changed, answer.changed, message, length);
     if (!changed)
         expect("map of an unchanged record", 0,
                memcmp(before.map, d->map, sizeof d->map) != 0, message, length);
-    if (answer.number != PCP_HANDLED)
+    if (answer.number == PCP_REPEAT_DIFFERS) {
+        before.record[0] = PCP_DEVICE_FAILED;
+        expect("a repeat that differs changes the phase alone", 0,
+               memcmp(before.record, d->record, sizeof d->record) != 0 ||
+                   memcmp(before.map, d->map, sizeof d->map) != 0,
+               message, length);
+    } else if (answer.number != PCP_HANDLED)
         expect("refused, but changed", 0, (unsigned)changed, message, length);
     expect_written(answer, d, &other);
     note_met(answer, d);
@@ -822,6 +837,8 @@ static void try_answers(void)
     expect_met("fragments stored", met.stored);
     expect_met("short last fragments", met.short_last);
     expect_met("reserved bits handled", met.reserved);
+    expect_met("repeats", met.repeated);
+    expect_met("repeats that differ", met.differed);
     expect_met("changes", met.changed);
     expect_met("handled without a change", met.unchanged);
     expect_met("refusals", met.refused);

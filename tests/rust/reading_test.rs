@@ -292,6 +292,10 @@ impl Bench {
         (self.receive(message).number, self.device.phase)
     }
 
+    fn parts(self) -> (Device, Vec<u8>, Vec<u8>) {
+        (self.device, self.image, self.map)
+    }
+
     fn next_message(&self) -> Answer {
         self.device.next_message(&self.image, &self.map, DEVICE_ROOM)
     }
@@ -374,7 +378,16 @@ fn fragments(tally: &mut Tally) {
     tally.same("the last first", bench.step(&fragment(2, cut(&package, 32, 2))), (0, 1));
     // Repeats do not complete the download.
     for _ in 0..3 {
-        tally.same("a repeat", bench.step(&fragment(2, &[1; 32])), (12, 1));
+        tally.same("a repeat", bench.step(&fragment(2, cut(&package, 32, 2))), (12, 1));
+    }
+    // One that differs fails it, and changes nothing else: the last one by its length too.
+    let mut longer = cut(&package, 32, 2).to_vec();
+    longer.push(0);
+    for data in [&[1; 5][..], &longer, &longer[..4], &[1; 32]] {
+        let mut other = bench.clone();
+        tally.same("a repeat that differs", other.step(&fragment(2, data)), (23, 4));
+        other.device.phase = 1;
+        tally.same("and all else", (other.device, other.image, other.map), bench.clone().parts());
     }
     tally.same("the first", bench.step(&fragment(0, cut(&package, 32, 0))), (0, 1));
     tally.same("lowest missing", bench.next_message().reply[24..].to_vec(), vec![0, 1]);
@@ -575,7 +588,8 @@ fn any_message(random: &mut Random) -> Vec<u8> {
     }
 }
 
-/// Whether one random call at the device was refused and yet left something changed, or gave a reply.
+/// Whether one random call at the device was refused and yet left something changed, but for the phase with 23, or gave
+/// a reply.
 fn refusal_changes(random: &mut Random) -> bool {
     let mut bench = any_bench(random);
     let before = bench.clone();
@@ -589,7 +603,10 @@ fn refusal_changes(random: &mut Random) -> bool {
             bench.device.receive(&message, BOTH_FACTS, condition, &mut bench.image, &mut bench.map, room)
         }
     };
-    let same = (bench.device, bench.image, bench.map) == (before.device, before.image, before.map);
+    if answer.number == 23 {
+        bench.device.phase = before.device.phase;
+    }
+    let same = bench.parts() == before.parts();
     answer.number != 0 && !(same && answer.reply.is_empty())
 }
 

@@ -8,12 +8,13 @@ use std::path::Path;
 use std::{env, fs, io, process};
 use support::captures::{self, SAMPLE_SEED};
 
-fn samples() -> [(&'static str, Vec<u8>); 7] {
+fn samples() -> [(&'static str, Vec<u8>); 8] {
     [
         ("four-records", captures::four_records()),
         ("full-download", captures::full_download(SAMPLE_SEED)),
         ("large-fragments", captures::large_fragments()),
         ("recut", captures::recut(SAMPLE_SEED)),
+        ("recut-repeated", captures::recut_repeated(SAMPLE_SEED)),
         ("reserved-bits", captures::reserved_bits()),
         ("damaged", captures::damaged()),
         ("cut", captures::cut()),

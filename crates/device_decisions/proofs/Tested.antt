@@ -49,7 +49,8 @@ module _ (f : Fields) (last index : ℕ) (image map bytes : List ℕ) where
   past-total h = fails badIndex (ltb index (f .total)) _ (le-ltb index (f .total) h)
 
   module _ (below : index < f .total) where
-    within : number ≡ refusal ((badFragmentLength, fragmentLength f index (length bytes)) ∷ (repeatNumber f last index image bytes, not (marked map index)) ∷ [])
+    within : number
+        ≡ refusal ((badFragmentLength, fragmentLength f index (length bytes)) ∷ (repeatNumber f last index image bytes, not (marked map index)) ∷ [])
     unfolding fragmentNumber
     within = passes badIndex (ltb index (f .total)) _ (lt-ltb index (f .total) below)
 

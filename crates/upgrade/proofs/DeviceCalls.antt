@@ -17,8 +17,8 @@ use Rattle.device_record.specs.Record.{idle, loading, loaded, acked, failed, in
 use Rattle.bitmap.specs.Bitmap.{cleared}
 use Rattle.device.specs.Rules.{announceResult, completion}
 use Rattle.device.proofs.Views
-use Rattle.device.proofs.Views.{Input, hears, asks, installs, Out, out, spoken, storedOut, receiveOut, askOut, installOut, Begins, Resumes, Stores, Repeats, Still}
-use Rattle.device.proofs.Views.{Moves, Does, receive-does, ask-does, install-does}
+use Rattle.device.proofs.Views.{Input, hears, asks, installs, Out, out, spoken, storedOut, receiveOut, askOut, installOut, Begins, Resumes, Stores}
+use Rattle.device.proofs.Views.{Repeats, Still, Moves, Does, receive-does, ask-does, install-does}
 use Rattle.upgrade.specs.Calls.{DeviceCall, given, asked, finished, aired}
 use Rattle.upgrade.specs.Records.{DeviceEnd, deviceNext, deviceDoes}
 use Rattle.upgrade.proofs.Ends.{deviceSays, deviceNumber}

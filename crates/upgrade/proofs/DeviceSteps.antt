@@ -22,8 +22,8 @@ use Rattle.gateway_record.specs.Record as gateway
 use Rattle.gateway_record.proofs.Package.{stretch-fits, stretch-within}
 use Rattle.upgrade.specs.Records.{DeviceEnd, World}
 use Rattle.upgrade.proofs.Air.{Air, air-none, air-one, air-map, air-more}
-use Rattle.upgrade.proofs.DeviceCalls.{endOf, DoesAt, StillAt, BeginsAt, ResumesAt, StoresAt, RepeatsAt, stillAt, begunAt, storedAt, movedAt, outcomeAt, Moved}
-use Rattle.upgrade.proofs.DeviceCalls.{moves-to, holding-below, completion-low, other-version}
+use Rattle.upgrade.proofs.DeviceCalls.{endOf, DoesAt, StillAt, BeginsAt, ResumesAt, StoresAt, RepeatsAt, stillAt, begunAt, storedAt}
+use Rattle.upgrade.proofs.DeviceCalls.{movedAt, outcomeAt, Moved, moves-to, holding-below, completion-low, other-version}
 use Rattle.upgrade.proofs.Run.{Plan, SoundEnd, NotEnded, Offering, Stretch, RunsTarget, GatewaySaid, DeviceSaid, more-served, more-said, Untaken, Taken}
 use Rattle.upgrade.proofs.Run.{Run, untaken, taken}
 

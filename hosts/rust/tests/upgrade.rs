@@ -140,6 +140,36 @@ fn reserved_bits_change_nothing() {
 }
 
 #[test]
+fn a_repeat_that_differs_fails_the_download() {
+    let mut pair = Pair::new();
+    pair.gateway_speaks();
+    pair.gateway_speaks();
+    let request = pair.device_asks().unwrap();
+    let fragment = pair.gateway_takes(&request).0.unwrap();
+    assert_eq!(pair.device_takes(&fragment).2, Some((0, 32)));
+    let mut other = fragment.clone();
+    other[11] ^= 1;
+    let check = pcp::check_of_message(&other).to_be_bytes();
+    other[4..6].copy_from_slice(&check);
+    let (image, map) = (pair.image, pair.map);
+    for (message, refusal, phase) in [
+        (&fragment, Refusal::AlreadyStored, DevicePhase::Loading),
+        (&other, Refusal::RepeatDiffers, DevicePhase::Failed),
+        (&other, Refusal::NoUse, DevicePhase::Failed),
+    ] {
+        let mut reply = [0; DEVICE_REPLY];
+        let buffers = (&mut pair.image, &mut pair.map);
+        let answer =
+            pair.device.receive(Facts::BOTH, Condition::Ready, message, buffers.0, buffers.1, &mut reply);
+        assert_eq!((answer, pair.device.phase()), (Err(refusal), phase));
+        assert_eq!((pair.image, pair.map, pair.device.stored()), (image, map, 1));
+    }
+    assert!(!Refusal::RepeatDiffers.is_hosts_fault());
+    let report = pair.device_asks().unwrap();
+    assert_eq!((report[3], report[8]), (22, 0x07));
+}
+
+#[test]
 fn a_refusal_changes_nothing() {
     let mut pair = Pair::loaded();
     let (device, image, map) = (pair.device.clone(), pair.image, pair.map);
@@ -205,7 +235,7 @@ fn values_and_bytes_are_each_others() {
     assert_eq!(known::<Condition>(), [0, 1, 2, 4, 127]);
     assert_eq!(known::<InstallCode>(), [0x00, 0x01, 0x04, 0x05, 0x09, 0x0A, 0x7F]);
     assert_eq!(known::<Ending>(), [0, 1, 2, 3, 4, 5]);
-    assert_eq!(known::<Refusal>(), [&(1..=19).collect::<Vec<_>>()[..], &[29, 64]].concat());
+    assert_eq!(known::<Refusal>(), [&(1..=19).collect::<Vec<_>>()[..], &[23, 29, 64]].concat());
     assert_eq!(Ending::try_from(6).unwrap_err().to_string(), "unknown byte 06");
 }
 

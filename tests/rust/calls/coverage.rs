@@ -14,6 +14,7 @@ use crate::reading::message::{
     UPGRADE_RESULT, UPGRADE_RESULTS,
 };
 use crate::reading::number;
+use std::cmp::Ordering;
 use std::collections::{BTreeMap, BTreeSet};
 
 /// An event, with two numbers that tell it from others of its kind; 0 where it has none.
@@ -53,6 +54,8 @@ const SIZE_STARTED: &str = "size at the start";
 const GATEWAY_BUFFER: &str = "gateway reply buffer";
 /// Last fragments stored, of 1 byte, of one less than the size, and of the size.
 const LAST_STORED: &str = "last fragment stored";
+/// Repeats of a stored fragment, by how they compare with it (`repeat_kind`) and the number.
+const REPEATED: &str = "device was given a repeat";
 /// Steps, by the phases before and after.
 const DEVICE_STEP: &str = "device step";
 const GATEWAY_STEP: &str = "gateway step";
@@ -114,6 +117,13 @@ impl Coverage {
                 }
                 self.count_message([DEVICE_HANDLED, DEVICE_NO_USE], number, &made, before.device.phase);
                 sent(DEVICE_REPLY).into_iter().for_each(|event| self.count(event));
+                if matches!(number, number::ALREADY_STORED | number::REPEAT_DIFFERS) {
+                    self.count((
+                        REPEATED,
+                        repeat_kind(&before.device, &made.before.image, &made.before.input),
+                        number,
+                    ));
+                }
                 if counts_steps {
                     self.count_device_step(&before.device, &after.device);
                     self.count_announcement(reply, result, &before.device, &after.device);
@@ -230,6 +240,25 @@ impl Coverage {
     }
 }
 
+/// How a repeat compares with what is stored: 0 the same, 1 the same short last one, 2 with another first byte alone, 3
+/// with another last byte alone, 4 with others, 5 shorter, 6 longer.
+fn repeat_kind(device: &Device, image: &[u8], message: &[u8]) -> u8 {
+    let (index, data) = (u16::from_be_bytes([message[9], message[10]]), &message[11..]);
+    let place = usize::from(index) * usize::from(device.size);
+    let length = if index == device.total - 1 { device.last } else { device.size };
+    let stored = &image[place..][..usize::from(length)];
+    let different: Vec<usize> =
+        (0..data.len().min(stored.len())).filter(|at| data[*at] != stored[*at]).collect();
+    match (data.len().cmp(&stored.len()), &different[..]) {
+        (Ordering::Less, _) => 5,
+        (Ordering::Greater, _) => 6,
+        (_, []) => u8::from(length < device.size),
+        (_, [0]) => 2,
+        (_, [at]) if at + 1 == data.len() => 3,
+        _ => 4,
+    }
+}
+
 /// The size in an announcement.
 fn announced_size(message: &[u8]) -> Option<u16> {
     let size = message.get(HEADER + 16..HEADER + 18)?;
@@ -270,7 +299,10 @@ fn wanted_numbers() -> Vec<Event> {
     [
         one_each(RECOGNISE, &[0, 1, 2, 3, 4, 5, 6, 7]),
         one_each(DEVICE_NEW, &[0, 17, SHORT_RECORD]),
-        one_each(DEVICE_RECEIVE, &[0, 1, 2, 3, 4, 5, 6, 7, 8, 9, 10, 11, 12, 13, 14, 15, 29, SHORT_RECORD]),
+        one_each(
+            DEVICE_RECEIVE,
+            &[0, 1, 2, 3, 4, 5, 6, 7, 8, 9, 10, 11, 12, 13, 14, 15, 23, 29, SHORT_RECORD],
+        ),
         one_each(DEVICE_NEXT, &[0, 9, 14, 15, 29, SHORT_RECORD]),
         one_each(DEVICE_INSTALL, &[0, 9, 16, 29, SHORT_RECORD]),
         one_each(GATEWAY_START, &[0, 17, 18, 19, SHORT_RECORD]),
@@ -295,9 +327,11 @@ fn wanted_version_bytes() -> Vec<Event> {
 }
 
 /// Each size at an edge, taken or refused; the gateway's reply buffer one byte too short, and just long enough; last
-/// fragments of each length that matters.
+/// fragments of each length that matters; repeats that are the same, and that differ in each way.
 fn wanted_sizes() -> Vec<Event> {
     let mut events = one_each(LAST_STORED, &[0, 1, 2]);
+    events.extend([(REPEATED, 0, number::ALREADY_STORED), (REPEATED, 1, number::ALREADY_STORED)]);
+    events.extend([2, 3, 4, 5, 6].map(|kind| (REPEATED, kind, number::REPEAT_DIFFERS)));
     events.extend([(GATEWAY_BUFFER, 0, 1), (GATEWAY_BUFFER, 1, 0)]);
     for (place, size) in SIZE_EDGES.iter().enumerate() {
         let is_size = SIZES.contains(size);

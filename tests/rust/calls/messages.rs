@@ -172,12 +172,14 @@ fn changed_index(random: &mut Random, total: u16) -> u16 {
 fn changed_fragment(random: &mut Random, ends: &Ends) -> Vec<u8> {
     let index = changed_index(random, ends.device.total);
     let mut data = data_for(random, ends, index);
-    match random.below(8) {
+    match random.below(16) {
         0 => drop(data.pop()),
         1 => data.push(random.byte()),
         2 => data.truncate(1),
         3 => data = filler(random, usize::from(ends.device.size.min(1_100))),
         4 => data.truncate(random.below(data.len() + 1)),
+        5 => data.first_mut().into_iter().for_each(|byte| *byte ^= 1),
+        6 => data.last_mut().into_iter().for_each(|byte| *byte ^= 0x80),
         _ => {}
     }
     let result = random.pick(&[0x00, 0x00, 0x00, 0x00, 0x00, 0x00, 0x80, 0x81, 0x01]);

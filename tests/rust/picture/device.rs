@@ -7,6 +7,7 @@ use crate::reading::check::check;
 use crate::reading::device::{Device, CONDITIONS};
 use crate::reading::gateway::cut;
 use crate::reading::message::{Announcement, ToDevice, ToGateway, BOTH_FACTS, DEVICE_ROOM, GATEWAY_ANSWERS};
+use crate::reading::number;
 use crate::support::messages::written;
 use crate::support::version;
 
@@ -69,7 +70,7 @@ impl Bench {
         let mut after = self.clone();
         let Bench { device, image, map } = &mut after;
         let answer = device.receive(&written(*message), BOTH_FACTS, condition, image, map, DEVICE_ROOM);
-        let event = self.event(message, &after);
+        let event = self.event(message, &after, answer.number);
         Call { event, number: answer.number, answer: answer.reply.get(8).copied(), after }
     }
 
@@ -79,10 +80,13 @@ impl Bench {
         Call { event: Event { message: "installer's end", result, case: "" }, number, answer: None, after }
     }
 
-    fn event(&self, message: &ToDevice, after: &Bench) -> Event {
+    fn event(&self, message: &ToDevice, after: &Bench, number: u8) -> Event {
         let (message, result, case) = match message {
             ToDevice::Query => ("19", "", ""),
             ToDevice::Announce(offer) => ("20", "", self.offer_case(offer)),
+            ToDevice::Fragment { result: 0x00, .. } if number == number::REPEAT_DIFFERS => {
+                ("21", "00", "stored with other bytes")
+            }
             ToDevice::Fragment { result: 0x00, .. } => ("21", "00", after.fragment_case()),
             ToDevice::Fragment { result, .. } => ("21", result_name(*result), ""),
             ToDevice::DownloadResult { result } => ("22", result_name(*result), ""),
@@ -177,7 +181,7 @@ const PLAN: Plan = Plan {
         route(LOADING, IDLE, &[(540, 196), (540, 96)], right((550, 150), 30)),
         route(LOADING, LOADED, &[(460, 326), (460, 436)], left((450, 378), 18)),
         route(LOADED, LOADING, &[(540, 436), (540, 326)], right((550, 386), 18)),
-        route(LOADING, FAILED, &[(610, 220), (774, 220)], along((692, 196), 18)),
+        route(LOADING, FAILED, &[(610, 220), (774, 220)], along((700, 168), 30)),
         route(FAILED, LOADING, &[(774, 250), (610, 250)], along((692, 268), 30)),
         route(FAILED, IDLE, &[(884, 196), (884, 66), (610, 66)], along((747, 56), 30)),
         route(LOADED, ACKED, &[(610, 476), (774, 476)], along((692, 466), 30)),

@@ -1,5 +1,6 @@
 //! The phases of an end and what leads from one to another, found by making every call in every state that calls reach.
 
+use crate::reading::number;
 use std::collections::{BTreeMap, BTreeSet};
 
 /// A phase as the picture names it.
@@ -48,9 +49,11 @@ pub struct Machine {
     changing: BTreeSet<&'static str>,
 }
 
-/// Tells handled and answered calls from the others, of which it sees that they change nothing.
+/// Tells calls that are handled and answered, and a repeat that differs, from the others, of which it sees that they change
+/// nothing.
 fn moves<E: End>(before: &E, call: &Call<E>) -> Result<bool, String> {
-    let moves = call.number == 0 && call.answer.unwrap_or(0) == 0;
+    let moves =
+        matches!(call.number, number::HANDLED | number::REPEAT_DIFFERS) && call.answer.unwrap_or(0) == 0;
     if moves || call.after == *before {
         Ok(moves)
     } else {

@@ -1,5 +1,5 @@
 //! The functions that a host calls, over the bytes that it lends: the records' layouts before and after 01's calls.
-//! A refused call writes nothing.
+//! A refused call writes nothing, but for the phase with 23.
 
 use super::check::{check, message_check};
 use super::device::Device;
@@ -145,7 +145,7 @@ fn made<T>(
     number
 }
 
-/// A call is made on a record, which is written back where the call is handled.
+/// A call is made on a record, which is written back where the call is handled, and with 23.
 fn updated<T>(
     buffer: &mut [u8],
     read: impl FnOnce(&[u8]) -> Result<T, u8>,
@@ -154,7 +154,7 @@ fn updated<T>(
 ) -> Answer {
     let answer = read(buffer).map(|mut record| {
         let answer = call(&mut record);
-        if answer.number == number::HANDLED {
+        if matches!(answer.number, number::HANDLED | number::REPEAT_DIFFERS) {
             write(&record, buffer);
         }
         answer

@@ -1,4 +1,5 @@
-//! The device (01, "The head"). A call changes record, image and map only if its number is 0.
+//! The device (01, "The head"). A call changes record, image and map only if its number is 0; but 23 makes the phase Failed
+//! (02, 2026-06).
 
 use super::check::check;
 use super::message::{
@@ -214,12 +215,14 @@ impl Device {
         Ok(())
     }
 
-    /// 21 with result 00: the refusals 10, 11, 12, then the fragment is stored.
+    /// 21 with result 00: the refusals 10, 11, and 12 or 23, then the fragment is stored.
     fn store(&mut self, index: u16, data: &[u8], image: &mut [u8], map: &mut [u8]) -> Result<(), u8> {
         require(index < self.total, number::INDEX)?;
         require(self.length_fits(index, data.len()), number::FRAGMENT_LENGTH)?;
-        require(!is_stored(map, index), number::ALREADY_STORED)?;
         let place = usize::from(index) * usize::from(self.size);
+        if is_stored(map, index) {
+            return Err(self.repeated(data, &image[place..][..self.stored_length(index)]));
+        }
         image[place..place + data.len()].copy_from_slice(data);
         map[usize::from(index) / 8] |= 1 << (index % 8);
         self.stored += 1;
@@ -230,6 +233,20 @@ impl Device {
             self.phase = if self.image_is_good(image) { LOADED } else { FAILED };
         }
         Ok(())
+    }
+
+    /// The same bytes and length again, or others: then the download has failed.
+    fn repeated(&mut self, data: &[u8], stored: &[u8]) -> u8 {
+        if data == stored {
+            return number::ALREADY_STORED;
+        }
+        self.phase = FAILED;
+        number::REPEAT_DIFFERS
+    }
+
+    /// How long the fragment of an index is once it is stored.
+    fn stored_length(&self, index: u16) -> usize {
+        usize::from(if self.is_last(index) { self.last } else { self.size })
     }
 
     fn is_last(&self, index: u16) -> bool {

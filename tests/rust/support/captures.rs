@@ -251,6 +251,28 @@ pub fn reserved_bits() -> Vec<u8> {
     ])
 }
 
+/// March, where nobody announces the recut: half of a build is stored when the gateway serves its recut in its place. The
+/// first of its fragments that is stored already differs, and the download has failed; then the recut is announced.
+pub fn recut_repeated(seed: u64) -> Vec<u8> {
+    let (first, second) = builds();
+    let mut session = Session::new(seed);
+    let mut server = Server::new("V1.0", 64, &first, true);
+    session.offer(&mut server);
+    session.download(&mut server, 6);
+    for index in [8, 9, 2, 10] {
+        let data = &second[usize::from(index) * 64..][..64];
+        session.deliver(&fragment(index, data));
+    }
+    assert_eq!(session.device.phase, 4, "the download has failed");
+    session.report(&mut server);
+    let mut server = Server::new("V1.0", 64, &second, true);
+    session.offer(&mut server);
+    session.download(&mut server, 12);
+    assert_eq!(session.device.phase, 2, "the recut is loaded");
+    assert_eq!(session.image[..second.len()], second);
+    session.capture.bytes
+}
+
 /// A good start, then a record whose mark is wrong.
 pub fn damaged() -> Vec<u8> {
     let messages = four_messages();

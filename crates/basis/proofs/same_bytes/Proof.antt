@@ -29,8 +29,10 @@ shared-slice-read-if2-2 c = omega (arith, c .before .before .before .loop .inv .
 
 returns-2 : tie.Need-returns-2 Inv-loop μ-loop
 returns-2 c =
-    sym (same-differs (c .before .before .before .before .before .before .args .a .now) (c .before .before .before .before .before .before .args .b .now) (c .before .before .before .before .loop .i) (c .before .before .before .loop-test .taken)
-    (omega (arith, c .before .before .before .before .loop .inv .0, c .before .before .before .loop-test .taken)) (c .if2 .taken)) ∙ c .before .before .before .before .loop .inv .2
+    let l = c .before .before .before .before in
+    let s = l .before .before in
+    sym (same-differs (s .args .a .now) (s .args .b .now) (l .loop .i) (c .before .before .before .loop-test .taken)
+    (omega (arith, l .loop .inv .0, c .before .before .before .loop-test .taken)) (c .if2 .taken)) ∙ l .loop .inv .2
 
 add-i : tie.Need-add-i Inv-loop μ-loop
 add-i c = omega arith
@@ -39,14 +41,14 @@ loop-less : tie.Need-loop-less Inv-loop μ-loop
 loop-less c = omega arith
 
 loop-again : tie.Need-loop-again Inv-loop μ-loop
-loop-again c = (
-  c .before .before .before .before .loop .inv .0,
-  omega (arith, c .before .before .before .loop-test .taken),
-  sym (same-later (c .before .before .before .before .before .before .args .a .now) (c .before .before .before .before .before .before .args .b .now)
-      (c .before .before .before .before .loop .i) (c .before .before .before .loop-test .taken)
-      (omega (arith, c .before .before .before .before .loop .inv .0, c .before .before .before .loop-test .taken)) (c .if2 .left))
-      ∙ c .before .before .before .before .loop .inv .2,
-)
+loop-again c =
+    let l = c .before .before .before .before in
+    let s = l .before .before in (
+      l .loop .inv .0,
+      omega (arith, c .before .before .before .loop-test .taken),
+      sym (same-later (s .args .a .now) (s .args .b .now) (l .loop .i) (c .before .before .before .loop-test .taken)
+          (omega (arith, l .loop .inv .0, c .before .before .before .loop-test .taken)) (c .if2 .left)) ∙ l .loop .inv .2,
+    )
 
 returns-3 : tie.Need-returns-3 Inv-loop μ-loop
 returns-3 c =
