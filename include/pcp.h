@@ -101,8 +101,8 @@
    - It asks: at once when a call changed the record (a gateway in Offer: after
      a wait), otherwise by a timer.  Nothing moves on by itself.  See "When
      messages are lost".
-   - It looks at the phase after a call that gave 0 only: bytes that are no
-     record may read like any phase.
+   - It looks at the phase only after a call that gave 0 or 23: bytes that are
+     no record may read like any phase.
 
    At the device:
 
@@ -182,19 +182,21 @@
    tests are made in the order that the function's comment names, and the first
    that fails gives the number.  A refused call has changed nothing: record,
    image, map and reply are as they were, and the reply's length is 0.  The one
-   exception is 23 (PCP_REPEAT_DIFFERS) of pcp_device_receive: it makes the
-   phase Failed, and changes nothing else.  On 0 the reply, if there is one,
+   exception is the number 23 (PCP_REPEAT_DIFFERS) of pcp_device_receive: it
+   makes the phase Failed, and changes nothing else.  On 0 the reply, if there is one,
    fills the front of its buffer; the rest stays.  No bytes that arrive, from
    wherever, lead to anything else.
 
    1 to 12 are part of normal work: what arrived is of no use and is dropped, or
    an end that was asked has nothing to send (PCP_NO_USE).  Of these, 1 and 2
    repeat what the host states of the device, and 9 from
-   pcp_device_install_finished says that no installation is under way.  23 says
-   that fragments of two builds have met: the device has given the download up,
-   and has to be asked, so that it tells its gateway.  The other higher numbers
-   are mistakes of the host, in what it lends or states: the same call again
-   gets the same number.
+   pcp_device_install_finished says that no installation is under way.  The
+   number 23 says that a fragment came twice and not the same: fragments of two
+   builds have met, or there is damage that no check saw, or the image is not as
+   the last call left it.  The device has given the download up, and has to be
+   asked, so that it tells its gateway.  The other higher numbers are mistakes
+   of the host, in what it lends or states: the same call again gets the same
+   number.
 
    A number is not a result.  Number 0 with a reply whose byte 8 is 01 is a
    message that was handled, and answered no.
@@ -240,9 +242,10 @@
    and let nobody else write record, image, map and package.  Then, whatever is
    lost, repeated or reordered: when the device answers 23 with 00, its image
    begins with the gateway's package; and when the gateway ends with
-   PCP_ENDING_SUCCESS, this installation was reported finished with 00.  What
-   the device had stored before, under an announcement of the same version,
-   size, total and code, must be the same package's, undamaged.  This is proved.
+   PCP_ENDING_SUCCESS, this installation was reported finished with 00; and no
+   call gives the number 23.  What the device had stored before, under an
+   announcement of the same version, size, total and code, must be the same
+   package's, undamaged.  This is proved.
 
    What cannot.  Damage on the way is found by the messages' 16-bit check: most
    of it, not all (two neighbouring bytes xored with 0A and C3 always pass).
@@ -294,8 +297,9 @@
    Not covered: a record or map that is lent in storage itself, where a cut may
    leave half of what a call writes; storage that says too early that bytes are
    there, or loses them later (the image is tested once, against the package's
-   code, when the last fragment is stored); and the installer's own work.  What
-   is proved is proved of runs without cuts.
+   code, when the last fragment is stored; and a fragment of it, against what
+   arrives, when it comes again); and the installer's own work.  What is proved
+   is proved of runs without cuts.
 
    After a restart the host knows which version runs.  By the phase saved:
 
@@ -573,7 +577,7 @@ enum {
     PCP_BAD_INDEX = 10,           /* no fragment of the download held */
     PCP_BAD_FRAGMENT_LENGTH = 11, /* not size long (the last: longer) */
     PCP_ALREADY_STORED = 12,      /* this fragment is there already, with the
-                                     same bytes */
+                                     same bytes and length */
     PCP_UNKNOWN_CONDITION = 13,   /* none of the conditions below */
     PCP_BAD_MEMORY = 14,          /* device, in Loading, Loaded and Acked: image
                                      or map shorter than the download needs;
@@ -591,7 +595,8 @@ enum {
     PCP_REPEAT_DIFFERS = 23,      /* this fragment is there already, with other
                                      bytes or another length: the phase is now
                                      Failed.  Save, and ask, so that the gateway
-                                     is told by a 22 with 07 */
+                                     is told by a 22 with 07.  Image and map
+                                     stay until the next announcement */
     PCP_BAD_RECORD = 29,          /* the record breaks its rules, see below; or
                                      a device in Loading is asked, and its map
                                      has no fragment missing.  Make a new one,
@@ -633,8 +638,10 @@ enum {
     PCP_DEVICE_LOADED = 2,     /* has all; says so until it is answered */
     PCP_DEVICE_ACKED = 3,      /* waits for the order to install */
     PCP_DEVICE_FAILED = 4,     /* has all, but the package's check is not the
-                                  code announced, which is not 0; says so until
-                                  answered */
+                                  code announced, which is not 0; or a stored
+                                  fragment came again and was not the same
+                                  (number 23), and then some may be missing;
+                                  says so until answered */
     PCP_DEVICE_INSTALLING = 5, /* the host installs, and reports the end */
     PCP_DEVICE_REPORTING = 6   /* reports to the gateway until answered */
 };
@@ -686,9 +693,11 @@ enum {
                                        05: a fragment size with a smaller size
                                        times total.  09: a larger size */
     PCP_ENDING_DOWNLOAD_FAILED = 3, /* it reported a failed download: 07, the
-                                       image's check is not the code.  Did the
-                                       package change?  For a new gateway the
-                                       device fetches all again */
+                                       image's check is not the code, or a
+                                       fragment came twice and not the same,
+                                       which ends it before all is there.  Did
+                                       the package change?  For a new gateway
+                                       the device fetches all again */
     PCP_ENDING_NOT_EXECUTED = 4,    /* an order to install was refused.  The
                                        device may install all the same, or have
                                        installed: it took another order, whose
@@ -777,7 +786,7 @@ uint32_t pcp_raw_gateway_next_message(const uint8_t *record,
                                       size_t reply_length);
 
 /* Looking into a record, of PCP_DEVICE_RECORD or PCP_GATEWAY_RECORD bytes.
-   Nothing is tested here: look after a call that gave 0. */
+   Nothing is tested here: look after a call that gave 0 or 23. */
 
 static inline uint8_t pcp_device_phase(const uint8_t *record)
 {
@@ -825,8 +834,8 @@ static inline uint16_t pcp_device_stored(const uint8_t *record)
 }
 
 /* How many of the image's first bytes are the package, once all fragments are
-   stored (Loaded, Acked, Failed, Installing, Reporting).  The value is only as
-   good as the record.  In Loaded and Acked the calls see that the image has
+   stored (Loaded, Acked, Installing, Reporting).  The value is only as good as
+   the record.  In Loaded and Acked the calls see that the image has
    that many (PCP_BAD_MEMORY), later they do not: compare before you use it. */
 static inline uint32_t pcp_device_image_length(const uint8_t *record)
 {
@@ -948,8 +957,8 @@ static inline uint8_t pcp_device_new(uint8_t *record, size_t record_length,
      enough; if not, the reply says so, the number is 0 and nothing has changed.
      It resumes the download held, if that is the same, or replaces it.
    - 21 stores a fragment; with the last that was missing, the image is tested:
-     Loaded, or Failed.  One that is stored is compared: 12 if it is the same,
-     23 and Failed if not.
+     Loaded, or Failed.  One that is stored already is compared: number 12 if it
+     is the same, number 23 and Failed if not.
    - 22 and 24 are the gateway's answers to download result and report: Acked,
      and Idle.  80 in 21 or 22 says that there is no such upgrade: Idle, and the
      download is given up.

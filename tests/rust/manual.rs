@@ -271,7 +271,7 @@ impl Exchange {
         Shown { outcome: Some((number, format!("{:?}", self.gateway.phase()))), lines }
     }
 
-    /// The upgrade has come to its end: the manual shows a whole one.
+    /// An upgrade has come to its end: the manual shows a whole one.
     fn is_complete(&self) -> bool {
         let ended = self.gateway.ending() == Some(Ending::Success);
         let installed =
@@ -345,21 +345,22 @@ fn carry_out(manual: &str) -> Result<usize, String> {
     let mut exchange = Exchange::new();
     let mut numbers = BTreeSet::new();
     let steps = steps(manual);
-    let mut different = 0;
+    let (mut different, mut complete) = (0, false);
     for step in &steps {
         let call = step.lines[0].split(" | ").next().unwrap_or_default();
         let shown = exchange.step(call).map_err(|error| format!("line {}: {}", step.at, error))?;
         numbers.extend(shown.outcome.iter().map(|(number, _)| *number));
+        complete |= exchange.is_complete();
         let lines = given(call, &shown);
         if lines != step.lines {
             different += 1;
             println!("line {}: the library gives\n{}", step.at, lines.join("\n  "));
         }
     }
-    match [0, 6, 9, 12].iter().find(|number| !numbers.contains(number)) {
+    match [0, 6, 9, 12, 23].iter().find(|number| !numbers.contains(number)) {
         _ if different > 0 => Err(format!("{} of {} steps differ", different, steps.len())),
         Some(number) => Err(format!("no step has number {}", number)),
-        None if !exchange.is_complete() => Err("the upgrade is not complete".to_string()),
+        None if !complete => Err("no upgrade is complete".to_string()),
         None => Ok(steps.len()),
     }
 }

@@ -50,7 +50,7 @@ badIndex = 10
 abbrev pub badFragmentLength : ℕ
 badFragmentLength = 11
 
--- fragment already stored
+-- fragment already stored, with the same bytes and length
 abbrev pub alreadyStored : ℕ
 alreadyStored = 12
 

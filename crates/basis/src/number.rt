@@ -37,7 +37,7 @@ pub const BAD_INDEX: u8 = 10;
 // Fragment length.
 pub const BAD_FRAGMENT_LENGTH: u8 = 11;
 
-// Fragment already stored.
+// Fragment already stored, with the same bytes and length.
 pub const ALREADY_STORED: u8 = 12;
 
 // Unknown condition.

@@ -10,7 +10,7 @@ use Rattle.message.specs.Recognition.{startHolds, versionByteHolds, codeHolds, 
 use Rattle.message.specs.Messages.{deviceFields, fragmentOk, installCode, deviceRow, gatewayRow}
 use Rattle.codec.specs.Codec.{sealed, frame, bytesOf, readOf, said}
 use Rattle.device_record.specs.Record.{holding, conditionOk, downloadOk, recordOk, mapBytes, memoryOk}
-use Rattle.device.specs.Rules.{announceResult, sameFields, resumes, fragmentLength, repeatNumber, fragmentNumber, passes, completion, executeResult}
+use Rattle.device.specs.Rules.{announceResult, sameFields, resumes, fragmentLength, repeatRefusal, fragmentRefusal, passes, completion, executeResult}
 use Rattle.device.specs.Rules.{begin, store, onQuery, onAnnounce, onFragment, onDownloadReply, onExecute, onResultReply, handle}
 use Rattle.device.specs.Rules.{receiveOf, wanted, nextMessageOf, installFinishedOf}
 use Rattle.device.specs.Cases.{DeviceCases}
@@ -21,7 +21,7 @@ unfolding pick refusal oneOf part same over patched marked mark cleared missingF
     startHolds versionByteHolds codeHolds checkHolds lengthHolds recognition
     deviceRow deviceFields fragmentOk gatewayRow installCode sealed frame bytesOf readOf said
     holding conditionOk downloadOk recordOk mapBytes memoryOk
-    announceResult sameFields resumes fragmentLength repeatNumber fragmentNumber passes completion executeResult
+    announceResult sameFields resumes fragmentLength repeatRefusal fragmentRefusal passes completion executeResult
     begin store onQuery onAnnounce onFragment onDownloadReply onExecute onResultReply handle
     receiveOf wanted nextMessageOf installFinishedOf
 device-cases = record { step = refl; change = refl; answer = refl; ask = refl; finish = refl; give-order = refl; ask-order = refl }

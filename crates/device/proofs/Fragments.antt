@@ -10,7 +10,7 @@ use Rattle.basis.proofs.Choosing.{pick-yes, pick-no}
 use Rattle.device_record.specs.declared.Device.{Device}
 use Rattle.basis.specs.Numbers.{repeatDiffers}
 use Rattle.device_record.specs.Record.{idle, loading, inPhase}
-use Rattle.device.specs.Rules.{refuse, differ, moved, store, fragmentNumber, onFragment}
+use Rattle.device.specs.Rules.{refuse, differ, moved, store, fragmentRefusal, onFragment}
 
 module _ (d : Device) (image map reply : List ℕ) (result index : ℕ) (content : List ℕ) where
   pub not-loading : (d .phase ≡ loading → ⊥) → onFragment d image map reply result index content ≡ refuse d image map reply 9
@@ -27,7 +27,7 @@ module _ (d : Device) (image map reply : List ℕ) (result index : ℕ) (content
       unfolding onFragment
       unknown e = pick-yes _ _ _ (eq-eqb (d .phase) loading p) ∙ pick-no _ _ _ (ne-eqb result 0x80 not80) ∙ pick-yes _ _ _ (eq-eqb result 0x81 e)
 
-      module _ (not81 : result ≡ 0x81 → ⊥) (n : ℕ) (number : n ≡ fragmentNumber (d .fields) (d .last) index image map content) where
+      module _ (not81 : result ≡ 0x81 → ⊥) (n : ℕ) (number : n ≡ fragmentRefusal (d .fields) (d .last) index image map content) where
         tested : onFragment d image map reply result index content
             ≡ pick (eqb n 0) (store d image map reply index content) (pick (eqb n repeatDiffers) (differ d image map reply) (refuse d image map reply n))
         unfolding onFragment

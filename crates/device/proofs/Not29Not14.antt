@@ -38,8 +38,8 @@ unfolding readOf recognition
 read-fine t supported pcp bytes =
     by-cases Fine (λ _. by-cases Fine (λ _. tt) (λ _. omega arith)) (λ _. refusal-among Neither _ (omega arith) (omega arith))
 
-repeat-neither : (f : Fields) (last index : ℕ) (image bytes : List ℕ) → Neither (rules.repeatNumber f last index image bytes)
-unfolding rules.repeatNumber
+repeat-neither : (f : Fields) (last index : ℕ) (image bytes : List ℕ) → Neither (rules.repeatRefusal f last index image bytes)
+unfolding rules.repeatRefusal
 repeat-neither f last index image bytes = by-cases Neither (λ _. omega arith) (λ _. omega arith)
 
 module _ (d : Device) (image map reply : List ℕ) where
@@ -47,7 +47,7 @@ module _ (d : Device) (image map reply : List ℕ) where
   L a = Neither (a .number)
 
   handle-neither : (condition : ℕ) (r : Reading DeviceMessage) → Fine r → Neither (handle d image map reply condition r .number)
-  unfolding L handle onQuery onAnnounce onFragment rules.fragmentNumber onDownloadReply onExecute onResultReply begin store
+  unfolding L handle onQuery onAnnounce onFragment rules.fragmentRefusal onDownloadReply onExecute onResultReply begin store
   handle-neither condition (refused n) h = h
   handle-neither condition (found query) h = omega arith
   handle-neither condition (found (announce f)) h = by-cases L (λ _. by-cases L (λ _. omega arith) (λ _. omega arith)) (λ _. omega arith)

@@ -25,13 +25,22 @@ use Rattle.device.proofs.Views
 use Rattle.device.proofs.Sound.{Download, Sound, sound-under, sound-does}
 
 module _ (Q : (index : ℕ) → List ℕ → Type 0) where
-  -- bytes of which Q holds stand at the index's place; those of the last index are as many as the last length says
+  -- bytes of which Q holds stand at the index's place: size many, those of the last index as many as the last length says
   pub record Stored (f : Fields) (image : List ℕ) (last index : ℕ) : Type 0 where
     pub bytes : List ℕ
     pub known : Q index bytes
     pub fits : length bytes ≤ f .size
     pub stands : Stands image (index * f .size) bytes
+    pub whole : (index + 1 ≡ f .total → ⊥) → length bytes ≡ f .size
     pub ends : index + 1 ≡ f .total → length bytes ≡ last
+
+  -- so they are what a repeat is compared with
+  pub stored-is : (f : Fields) (image : List ℕ) (last index : ℕ) (p : Stored f image last index) → storedBytes f last index image ≡ p .bytes
+  stored-is f image last index p =
+      let long : length (p .bytes) ≡ pick (isLast f index) last (f .size) =
+      by-cases (λ (n : ℕ). length (p .bytes) ≡ n) (λ t. p .ends (eqb-true (index + 1) (f .total) t))
+      (λ t. p .whole (eqb-false (index + 1) (f .total) t)) in
+      rw (← long) (p .stands)
 
   pub stored-elsewhere : (f : Fields) (image other : List ℕ) (last later index : ℕ)
       → take (f .size) (drop (index * f .size) image) ≡ take (f .size) (drop (index * f .size) other) → (index + 1 ≡ f .total → last ≡ later)
@@ -45,6 +54,7 @@ module _ (Q : (index : ℕ) → List ℕ → Type 0) where
         stands =
             sym (take-take n (f .size) (drop (index * f .size) other) (p .fits)) ∙ ap (take n) (sym e)
             ∙ take-take n (f .size) (drop (index * f .size) image) (p .fits) ∙ p .stands;
+        whole = p .whole;
         ends = λ t. p .ends t ∙ same t;
       }
 
@@ -68,6 +78,7 @@ module _ (Q : (index : ℕ) → List ℕ → Type 0) where
           fits = fits;
           stands = patched-stands (index * d .fields .size) bytes image
               (omega (arith, h .image-room, place-within (d .fields .size) (d .fields .total) index (length bytes) (st .below) fits));
+          whole = fragment-whole (d .fields) index (length bytes) (st .long);
           ends = λ t. sym (pick-yes _ (length bytes) (d .last) (eq-eqb (index + 1) (d .fields .total) t));
         }
 
@@ -77,11 +88,8 @@ module _ (Q : (index : ℕ) → List ℕ → Type 0) where
     repeats-same one index bytes s p r q =
         let f : Fields = d .fields in
         let h : Stored f image (d .last) index = s .download (λ e. omega (arith, p)) .holds .each index (r .below) (r .stored) in
-        let e : h .bytes ≡ bytes = one index (h .bytes) bytes (h .known) q in
-        let long : length (h .bytes) ≡ pick (isLast f index) (d .last) (f .size) =
-        by-cases (λ (n : ℕ). length (h .bytes) ≡ n) (λ t. h .ends (eqb-true (index + 1) (f .total) t))
-        (λ t. ap length e ∙ fragment-whole f index (length bytes) (r .long) (eqb-false (index + 1) (f .total) t)) in
-        let stored : storedBytes f (d .last) index image ≡ bytes = rw (← long) (h .stands) ∙ e in
+        let stored : storedBytes f (d .last) index image ≡ bytes =
+        stored-is f image (d .last) index h ∙ one index (h .bytes) bytes (h .known) q in
         true≢false (sym (same-eq bytes (storedBytes f (d .last) index image) (sym stored)) ∙ r .other)
 
     -- any call
@@ -106,7 +114,14 @@ pub standing-under : (Q R : (index : ℕ) → List ℕ → Type 0) (d : Device) 
     → Sound (standing Q) d image map → Sound (standing R) d image map
 standing-under Q R d image map so =
     sound-under (standing Q) (standing R) d image map
-    (λ h index l _ p. record { bytes = p .bytes; known = so h index (p .bytes) l (p .known); fits = p .fits; stands = p .stands; ends = p .ends })
+    (λ h index l _ p. record {
+      bytes = p .bytes;
+      known = so h index (p .bytes) l (p .known);
+      fits = p .fits;
+      stands = p .stands;
+      whole = p .whole;
+      ends = p .ends;
+    })
 
 -- full with the package's stretches: the image begins with the package
 pub package-stands : (content : List ℕ) (d : Device) (image map : List ℕ)

@@ -1,6 +1,6 @@
 -- The device's calls in computed cases: what each message brings in each phase, what changes in record, image and map, what is said when
--- asked, the installer's end, and the refusals in their order. What a row says is written from 01, "The head" and "Numbers returned".
--- Assumes nothing.
+-- asked, the installer's end, and the refusals in their order. What a row says is written from 01, "The head" and "Numbers returned", as 02
+-- (2026-06) amends it. Assumes nothing.
 use Prim.Native.Nat.{ℕ}
 use mathlib.Core.Bool.{Bool, true, false}
 use mathlib.Core.List.{List, [], _∷_, _++_}
@@ -46,7 +46,7 @@ steps =
     (4, 0, announce (fields 2 32 3 0), 0 ∷ 1 ∷ 20 ∷ 0x00 ∷ []) ∷
     (2, 4, announce (fields 3 32 1 7), 0 ∷ 2 ∷ 20 ∷ 0x04 ∷ []) ∷
     (5, 0, announce (fields 3 32 1 7), 0 ∷ 5 ∷ 20 ∷ 0x01 ∷ []) ∷
-    -- 21: phase before index, index before length, length before already stored, with the same bytes (00) or others
+    -- 21: the phase before the index, the index before the length, the length before the repeat, with the same bytes (00) or others
     (1, 0, fragment 0x80 0 [], 0 ∷ 0 ∷ []) ∷
     (1, 0, fragment 0x81 0 [], 0 ∷ 1 ∷ []) ∷
     (0, 0, fragment 0x80 0 [], 9 ∷ 0 ∷ []) ∷
@@ -57,6 +57,12 @@ steps =
     (4, 0, fragment 0x00 3 (0x41 ∷ []), 9 ∷ 4 ∷ []) ∷
     (5, 0, fragment 0x00 3 (0x41 ∷ []), 9 ∷ 5 ∷ []) ∷
     (6, 0, fragment 0x00 3 (0x41 ∷ []), 9 ∷ 6 ∷ []) ∷
+    (0, 0, fragment 0x00 1 (replicate 32 0x41), 9 ∷ 0 ∷ []) ∷
+    (2, 0, fragment 0x00 1 (replicate 32 0x41), 9 ∷ 2 ∷ []) ∷
+    (3, 0, fragment 0x00 1 (replicate 32 0x41), 9 ∷ 3 ∷ []) ∷
+    (4, 0, fragment 0x00 1 (replicate 32 0x41), 9 ∷ 4 ∷ []) ∷
+    (5, 0, fragment 0x00 1 (replicate 32 0x41), 9 ∷ 5 ∷ []) ∷
+    (6, 0, fragment 0x00 1 (replicate 32 0x41), 9 ∷ 6 ∷ []) ∷
     (1, 0, fragment 0x00 3 (replicate 33 0x41), 10 ∷ 1 ∷ []) ∷
     (1, 0, fragment 0x00 1 (0x41 ∷ []), 11 ∷ 1 ∷ []) ∷
     (1, 0, fragment 0x00 2 (replicate 33 0x41), 11 ∷ 1 ∷ []) ∷
@@ -114,6 +120,9 @@ changes =
     ((held 1 2 32 3 0x2C45 2 0, places 0x41 0x42 0, 0x03 ∷ []), fragment 0x00 2 (0x43 ∷ []), (held 4 2 32 3 0x2C45 3 1, filled, 0x07 ∷ [])) ∷
     -- an announcement afresh: its four fields, count and last length 0, its map bytes zeroed and no more
     ((holds 2 3 7, places 1 2 3, 0xFF ∷ 0xFF ∷ []), announce (fields 3 40 2 5), (held 1 3 40 2 5 0 0, places 1 2 3, 0x00 ∷ 0xFF ∷ [])) ∷
+    -- the last one again, of 7 bytes: nothing changes; of 6: the phase alone
+    ((holds 1 1 7, places 1 2 3, 0x04 ∷ []), fragment 0x00 2 (replicate 7 3), (holds 1 1 7, places 1 2 3, 0x04 ∷ [])) ∷
+    ((holds 1 1 7, places 1 2 3, 0x04 ∷ []), fragment 0x00 2 (replicate 6 3), (holds 4 1 7, places 1 2 3, 0x04 ∷ [])) ∷
     -- only the phase changes: 21 with 80 and with 81, 22, 23
     ((holds 1 1 7, places 1 2 3, 0x02 ∷ []), fragment 0x80 0 [], (holds 0 1 7, places 1 2 3, 0x02 ∷ [])) ∷
     ((holds 1 1 7, places 1 2 3, 0x02 ∷ []), fragment 0x81 0 [], (holds 1 1 7, places 1 2 3, 0x02 ∷ [])) ∷
@@ -139,7 +148,7 @@ shown = 0xFF ∷ 0xFE ∷ 0x01 ∷ 0x13 ∷ 0x1E ∷ 0xA6 ∷ 0x00 ∷ 0x11 ∷ 
 abbrev accepted : List ℕ
 accepted = 0xFF ∷ 0xFE ∷ 0x01 ∷ 0x14 ∷ 0xD7 ∷ 0x68 ∷ 0x00 ∷ 0x01 ∷ 0x00 ∷ []
 
--- the second place filled, its bit set: record, message; refused, handled, replied, begun afresh, resumed, stored
+-- the second place filled, its bit set: record, message; refused, handled, replied, begun afresh, resumed, stored, a repeat, one that differs
 abbrev pub answers : List (Device × DeviceMessage × After)
 answers =
     (holds 0 1 0, resultReply 0x00, after 9 0 (holds 0 1 0) (places 0 0x42 0) (0x02 ∷ []) (fives 26)) ∷
@@ -148,6 +157,8 @@ answers =
     (holds 0 1 0, announce (fields 3 32 1 7), after 0 9 (held 1 3 32 1 7 0 0) (places 0 0x42 0) (0x00 ∷ []) (accepted ++ fives 17)) ∷
     (held 2 2 32 3 7 3 5, announce (fields 2 32 3 7), after 0 9 (held 2 2 32 3 7 3 5) (places 0 0x42 0) (0x02 ∷ []) (accepted ++ fives 17)) ∷
     (holds 1 1 0, fragment 0x00 0 (replicate 32 0x41), after 0 0 (holds 1 2 0) (places 0x41 0x42 0) (0x03 ∷ []) (fives 26)) ∷
+    (holds 1 1 0, fragment 0x00 1 (replicate 32 0x42), after 12 0 (holds 1 1 0) (places 0 0x42 0) (0x02 ∷ []) (fives 26)) ∷
+    (holds 1 1 0, fragment 0x00 1 (replicate 32 0x41), after 23 0 (holds 4 1 0) (places 0 0x42 0) (0x02 ∷ []) (fives 26)) ∷
     []
 
 -- asks: record, map; number, length, and the message's code and data
@@ -163,6 +174,7 @@ asks =
     (holds 2 3 7, 0x07 ∷ [], 0 ∷ 9 ∷ 22 ∷ 0x00 ∷ []) ∷
     (holds 3 3 7, 0x07 ∷ [], 9 ∷ 0 ∷ []) ∷
     (holds 4 3 7, 0x07 ∷ [], 0 ∷ 9 ∷ 22 ∷ 0x07 ∷ []) ∷
+    (holds 4 1 0, 0x02 ∷ [], 0 ∷ 9 ∷ 22 ∷ 0x07 ∷ []) ∷  -- by the number 23, with fragments missing
     (holds 5 3 7, 0x07 ∷ [], 9 ∷ 0 ∷ []) ∷
     (holds 6 3 7, 0x07 ∷ [], 0 ∷ 25 ∷ 24 ∷ 0x04 ∷ text 1) ∷
     []
@@ -178,6 +190,10 @@ finished =
     (holds 5 3 7, 0x02, record { number = 16; device = holds 5 3 7 }) ∷
     []
 
+-- fragment 1, of 32 bytes 41
+abbrev again : List ℕ
+again = 0xFF ∷ 0xFE ∷ 0x01 ∷ 0x15 ∷ 0x3E ∷ 0x77 ∷ 0x00 ∷ 0x23 ∷ 0x00 ∷ 0x00 ∷ 0x01 ∷ replicate 32 0x41
+
 -- refusals of a message in their order, each bad in all that follows: length of the reply buffer, condition, record, length of the image,
 -- whether upgrade is supported, the message; number
 abbrev pub given : List (ℕ × ℕ × Device × ℕ × Bool × List ℕ × ℕ)
@@ -191,6 +207,13 @@ given =
     -- 24 in Loading, with a result that it may not carry, and with 00
     (26, 0, holds 1 1 0, 96, true, 0xFF ∷ 0xFE ∷ 0x01 ∷ 0x18 ∷ 0xBF ∷ 0x80 ∷ 0x00 ∷ 0x01 ∷ 0x01 ∷ [], 8) ∷
     (26, 0, holds 1 1 0, 96, true, 0xFF ∷ 0xFE ∷ 0x01 ∷ 0x18 ∷ 0xAF ∷ 0xA1 ∷ 0x00 ∷ 0x01 ∷ 0x00 ∷ [], 9) ∷
+    -- a repeat that differs comes last of all
+    (25, 3, holds 1 3 0, 95, false, again, 15) ∷
+    (26, 3, holds 1 3 0, 95, false, again, 13) ∷
+    (26, 0, holds 1 3 0, 95, false, again, 29) ∷
+    (26, 0, holds 1 1 0, 95, false, again, 14) ∷
+    (26, 0, holds 1 1 0, 96, false, again, 1) ∷
+    (26, 0, holds 1 1 0, 96, true, again, 23) ∷
     []
 
 -- refusals of an ask in their order: length of the reply buffer, record, length of the image; number. The map is full

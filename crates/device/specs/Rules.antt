@@ -18,7 +18,7 @@ use Rattle.bitmap.specs.Bitmap.{mark, cleared, lowestMissing}
 use Rattle.device.specs.declared.Finished.{Finished}
 use Rattle.device_decisions.specs.Decisions.{lastAfter}
 unfoldable pub use Rattle.device_decisions.specs.Decisions.{announceResult, sameFields, resumes, fragmentLength}
-unfoldable pub use Rattle.device_decisions.specs.Decisions.{repeatNumber, fragmentNumber, passes, completion, executeResult}
+unfoldable pub use Rattle.device_decisions.specs.Decisions.{repeatRefusal, fragmentRefusal, passes, completion, executeResult}
 
 -- what a call leaves: the number, the length of the reply, the record, and the three buffers
 pub record After : Type 0 where
@@ -83,7 +83,7 @@ module _ (d : Device) (image map reply : List ℕ) where
   -- 21 in Loading: 80 goes Idle, 81 changes nothing; else 10, 11, 12 or 23, or stored
   unfoldable pub onFragment : (result index : ℕ) → List ℕ → After
   onFragment result index bytes =
-      let n : ℕ = fragmentNumber (d .fields) (d .last) index image map bytes in
+      let n : ℕ = fragmentRefusal (d .fields) (d .last) index image map bytes in
       pick (eqb (d .phase) loading)
       (pick (eqb result 0x80) (moved (inPhase idle d))
       (pick (eqb result 0x81) (moved d)

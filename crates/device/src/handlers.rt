@@ -11,7 +11,7 @@ use basis::pick;
 use device_decisions::announce_result;
 use device_decisions::completion;
 use device_decisions::execute_result;
-use device_decisions::fragment_number;
+use device_decisions::fragment_refusal;
 use device_decisions::last_after;
 use device_decisions::resumes;
 use device_record::Device;
@@ -142,7 +142,7 @@ pub(crate) fn on_fragment(
         return moved(device);
     }
     let fields = device.fields;
-    let number = fragment_number(fields, device.last, index, image, map, content);
+    let number = fragment_refusal(fields, device.last, index, image, map, content);
     if number == REPEAT_DIFFERS {
         return refused(in_phase(device, Device::FAILED), REPEAT_DIFFERS);
     }

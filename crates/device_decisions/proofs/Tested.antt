@@ -14,7 +14,7 @@ use Rattle.basis.proofs.Choosing.{by-cases, passes, fails}
 use Rattle.bitmap.specs.Bitmap.{marked}
 use Rattle.message.specs.declared.Fields.{Fields}
 use Rattle.device_record.proofs.Ranges.{between}
-use Rattle.device_decisions.specs.Decisions.{fragmentLength, storedBytes, repeatNumber, fragmentNumber}
+use Rattle.device_decisions.specs.Decisions.{fragmentLength, storedBytes, repeatRefusal, fragmentRefusal}
 
 -- a fragment's length: at most size; size itself for all but the last
 pub fragment-fits : (f : Fields) (index n : ℕ) → fragmentLength f index n ≡ true → n ≤ f .size
@@ -42,42 +42,42 @@ fragment-some f index n =
 
 module _ (f : Fields) (last index : ℕ) (image map bytes : List ℕ) where
   abbrev number : ℕ
-  number = fragmentNumber f last index image map bytes
+  number = fragmentRefusal f last index image map bytes
 
   pub past-total : f .total ≤ index → number ≡ badIndex
-  unfolding fragmentNumber
+  unfolding fragmentRefusal
   past-total h = fails badIndex (ltb index (f .total)) _ (le-ltb index (f .total) h)
 
   module _ (below : index < f .total) where
     within : number
-        ≡ refusal ((badFragmentLength, fragmentLength f index (length bytes)) ∷ (repeatNumber f last index image bytes, not (marked map index)) ∷ [])
-    unfolding fragmentNumber
+        ≡ refusal ((badFragmentLength, fragmentLength f index (length bytes)) ∷ (repeatRefusal f last index image bytes, not (marked map index)) ∷ [])
+    unfolding fragmentRefusal
     within = passes badIndex (ltb index (f .total)) _ (lt-ltb index (f .total) below)
 
     pub wrong-length : fragmentLength f index (length bytes) ≡ false → number ≡ badFragmentLength
     wrong-length e = within ∙ fails badFragmentLength _ _ e
 
     module _ (long : fragmentLength f index (length bytes) ≡ true) where
-      whole : number ≡ refusal ((repeatNumber f last index image bytes, not (marked map index)) ∷ [])
+      whole : number ≡ refusal ((repeatRefusal f last index image bytes, not (marked map index)) ∷ [])
       whole = within ∙ passes badFragmentLength _ _ long
 
-      none : marked map index ≡ false → refusal ((repeatNumber f last index image bytes, not (marked map index)) ∷ []) ≡ 0
+      none : marked map index ≡ false → refusal ((repeatRefusal f last index image bytes, not (marked map index)) ∷ []) ≡ 0
       unfolding refusal
-      none e = passes (repeatNumber f last index image bytes) (not (marked map index)) [] (rw e)
+      none e = passes (repeatRefusal f last index image bytes) (not (marked map index)) [] (rw e)
 
       pub new-one : marked map index ≡ false → number ≡ 0
       new-one e = whole ∙ none e
 
-      pub repeated : marked map index ≡ true → number ≡ repeatNumber f last index image bytes
-      repeated e = whole ∙ fails (repeatNumber f last index image bytes) (not (marked map index)) [] (rw e)
+      pub repeated : marked map index ≡ true → number ≡ repeatRefusal f last index image bytes
+      repeated e = whole ∙ fails (repeatRefusal f last index image bytes) (not (marked map index)) [] (rw e)
 
   -- a repeat is 12 or 23, and 23 where the bytes are others
-  pub repeat-some : repeatNumber f last index image bytes ≡ 0 → ⊥
-  unfolding repeatNumber
+  pub repeat-some : repeatRefusal f last index image bytes ≡ 0 → ⊥
+  unfolding repeatRefusal
   repeat-some = by-cases (λ (n : ℕ). n ≡ 0 → ⊥) (λ _ z. omega arith) (λ _ z. omega arith)
 
-  repeat-differs : repeatNumber f last index image bytes ≡ repeatDiffers → same bytes (storedBytes f last index image) ≡ false
-  unfolding repeatNumber
+  repeat-differs : repeatRefusal f last index image bytes ≡ repeatDiffers → same bytes (storedBytes f last index image) ≡ false
+  unfolding repeatRefusal
   repeat-differs = by-cases (λ (n : ℕ). n ≡ repeatDiffers → same bytes (storedBytes f last index image) ≡ false) (λ _ z. absurd (omega arith)) (λ t _. t)
 
   -- what is known where none of them arises
@@ -94,7 +94,7 @@ module _ (f : Fields) (last index : ℕ) (image map bytes : List ℕ) where
     pub other : same bytes (storedBytes f last index image) ≡ false
 
   pub fragment-passed : number ≡ 0 → Passed
-  unfolding fragmentNumber refusal
+  unfolding fragmentRefusal refusal
   fragment-passed =
       by-cases (λ (n : ℕ). n ≡ 0 → Passed)
       (λ below. by-cases (λ (n : ℕ). n ≡ 0 → Passed)
@@ -105,7 +105,7 @@ module _ (f : Fields) (last index : ℕ) (image map bytes : List ℕ) where
       (λ _ z. absurd (omega arith))
 
   pub fragment-differs : number ≡ repeatDiffers → Differs
-  unfolding fragmentNumber refusal
+  unfolding fragmentRefusal refusal
   fragment-differs =
       by-cases (λ (n : ℕ). n ≡ repeatDiffers → Differs)
       (λ below. by-cases (λ (n : ℕ). n ≡ repeatDiffers → Differs)

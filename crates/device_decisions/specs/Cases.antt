@@ -1,15 +1,15 @@
--- The device's decisions in computed cases: the tests of 20 and their order, resume, the length of a fragment, the phase once all are
--- stored, and 23. What a row says is written from 01, "The head". Assumes nothing.
+-- The device's decisions in computed cases: the tests of 20 and their order, resume, the length of a fragment, the refusals of one and of its
+-- repeat, the phase once all are stored, and 23. What a row says is written from 01, "The head", as 02 (2026-06) amends it. Assumes nothing.
 use Prim.Native.Nat.{ℕ}
 use mathlib.Core.Bool.{Bool, true, false}
 use mathlib.Core.List.{List, [], _∷_, _++_, map}
-use lib.ListN.{replicate}
+use lib.ListN.{take, replicate}
 use Rattle.basis.specs.Cases.{Agree}
 use Rattle.message.specs.Cases.{text}
 use Rattle.message.specs.declared.Fields.{Fields}
 use Rattle.device_record.specs.declared.Device.{Device}
 use Rattle.device_record.specs.Cases.{device}
-use Rattle.device_decisions.specs.Decisions.{announceResult, resumes, fragmentLength, completion, executeResult}
+use Rattle.device_decisions.specs.Decisions.{announceResult, resumes, fragmentLength, fragmentRefusal, completion, executeResult}
 
 -- V and a figure, size, total, check code
 abbrev pub fields : (figure size total code : ℕ) → Fields
@@ -83,6 +83,38 @@ lengths =
 abbrev pub image : List ℕ
 image = replicate 32 0x41 ++ replicate 32 0x42
 
+-- a fragment of 32 bytes that begins with these, the others being 41
+abbrev begins : List ℕ → List ℕ
+begins bytes = take 32 (bytes ++ replicate 32 0x41)
+
+-- 21, the image's two fragments: last length, index, the map's byte, bytes; the number
+abbrev pub tested : List (ℕ × ℕ × ℕ × List ℕ × ℕ)
+tested =
+    -- a new one, whatever stands at its place
+    (1, 0, 0x02, replicate 32 0x41, 0) ∷
+    (1, 0, 0x02, replicate 32 0x43, 0) ∷
+    -- a repeat: the same; other in the first byte, the last, with the same sum, with the same check
+    (1, 0, 0x03, replicate 32 0x41, 12) ∷
+    (1, 0, 0x03, begins (0x40 ∷ []), 23) ∷
+    (1, 0, 0x03, begins (replicate 31 0x41 ++ (0x40 ∷ [])), 23) ∷
+    (1, 0, 0x03, begins (0x40 ∷ 0x42 ∷ []), 23) ∷
+    (1, 0, 0x03, begins (0x4B ∷ 0x82 ∷ []), 23) ∷
+    -- of the last: the same bytes and length; other, longer, shorter; one that is marked and has no length
+    (1, 1, 0x03, 0x42 ∷ [], 12) ∷
+    (32, 1, 0x03, replicate 32 0x42, 12) ∷
+    (1, 1, 0x03, 0x41 ∷ [], 23) ∷
+    (1, 1, 0x03, 0x42 ∷ 0x42 ∷ [], 23) ∷
+    (1, 1, 0x03, replicate 32 0x42, 23) ∷
+    (2, 1, 0x03, 0x42 ∷ [], 23) ∷
+    (0, 1, 0x03, 0x42 ∷ [], 23) ∷
+    -- before it the index, then the length
+    (1, 2, 0x07, replicate 33 0x43, 10) ∷
+    (1, 2, 0x07, replicate 32 0x43, 10) ∷
+    (1, 0, 0x03, replicate 31 0x43, 11) ∷
+    (1, 1, 0x03, replicate 33 0x43, 11) ∷
+    (1, 1, 0x03, [], 11) ∷
+    []
+
 -- 21: stored count, last length, check code; the phase. The check of the first 33 bytes is 7281, that of all 64 is C7AE
 abbrev pub completed : List (ℕ × ℕ × ℕ × ℕ)
 completed =
@@ -114,5 +146,10 @@ pub record DecisionCases : Type 0 where
       announced
   pub resume : Agree (λ (r : ℕ × ℕ × Fields × Bool). resumes (holder (r .0) (r .1)) (r .2)) (λ r. r .3) resumed
   pub fragment : Agree (λ (r : ℕ × ℕ × ℕ × Bool). fragmentLength (fields 2 32 (r .0) 7) (r .1) (r .2)) (λ r. r .3) lengths
+  pub test :
+      Agree
+      (λ (r : ℕ × ℕ × ℕ × List ℕ × ℕ). fragmentRefusal (fields 2 32 2 7) (r .0) (r .1) image (r .2 ∷ []) (r .3))
+      (λ r. r .4)
+      tested
   pub complete : Agree (λ (r : ℕ × ℕ × ℕ × ℕ). completion (r .0) (r .1) (fields 2 32 2 (r .2)) image) (λ r. r .3) completed
   pub execute : Agree (λ (r : ℕ × List ℕ). map (executeResult (r .0)) (0 ∷ 1 ∷ 2 ∷ 4 ∷ 127 ∷ [])) (λ r. r .1) executed

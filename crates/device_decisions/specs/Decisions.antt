@@ -1,4 +1,4 @@
--- The tests of an announcement, of a fragment and of an order to install: 01, "The head". Assumes nothing.
+-- The tests of an announcement, of a fragment and of an order to install: 01, "The head", as 02 (2026-06) amends it. Assumes nothing.
 use Prim.Native.Nat.{ℕ, _+_, _*_, _-_}
 use mathlib.Core.Bool.{Bool, _&&_, _||_, not}
 use mathlib.Core.List.{List, [], _∷_}
@@ -46,16 +46,16 @@ lastAfter f index n last = pick (isLast f index) n last
 abbrev pub storedBytes : Fields → (last index : ℕ) (image : List ℕ) → List ℕ
 storedBytes f last index image = take (pick (isLast f index) last (f .size)) (drop (index * f .size) image)
 
--- 21 of an index that is stored: 12 with the same bytes and length, 23 with others (02, 2026-06)
-unfoldable pub repeatNumber : Fields → (last index : ℕ) (image bytes : List ℕ) → ℕ
-repeatNumber f last index image bytes = pick (same bytes (storedBytes f last index image)) alreadyStored repeatDiffers
+-- 21 of an index that is stored: number 12 with the same bytes and length, 23 with others (02, 2026-06)
+unfoldable pub repeatRefusal : Fields → (last index : ℕ) (image bytes : List ℕ) → ℕ
+repeatRefusal f last index image bytes = pick (same bytes (storedBytes f last index image)) alreadyStored repeatDiffers
 
--- 21: 10, 11, and 12 or 23 in order, else 0
-unfoldable pub fragmentNumber : Fields → (last index : ℕ) (image map bytes : List ℕ) → ℕ
-fragmentNumber f last index image map bytes =
+-- 21: numbers 10, 11, and 12 or 23 in order, else 0
+unfoldable pub fragmentRefusal : Fields → (last index : ℕ) (image map bytes : List ℕ) → ℕ
+fragmentRefusal f last index image map bytes =
     refusal
     ((badIndex, ltb index (f .total)) ∷ (badFragmentLength, fragmentLength f index (length bytes)) ∷
-    (repeatNumber f last index image bytes, not (marked map index))
+    (repeatRefusal f last index image bytes, not (marked map index))
     ∷ [])
 
 -- the completed bytes pass where the code is 0 or their check

@@ -17,7 +17,7 @@ use message::Fields;
 ghost use mathlib.Core.Path.{_≡_};
 ghost use lib.Dec.{eqb, leb};
 ghost use Rattle.basis.specs.Choice.{pick};
-ghost use Rattle.device_decisions.specs.Decisions.{announceResult, sameFields, resumes, fragmentLength, repeatNumber, fragmentNumber};
+ghost use Rattle.device_decisions.specs.Decisions.{announceResult, sameFields, resumes, fragmentLength, repeatRefusal, fragmentRefusal};
 ghost use Rattle.device_decisions.specs.Decisions.{lastAfter, passes, trueLength, completion, executeResult};
 
 // 20: what an announcement is answered with, tests in order.
@@ -75,17 +75,17 @@ fn fragment_length(fields: Fields, index: u16, len: usize) -> bool
 
 // 21 of an index that is stored: 12 with the same bytes and length, 23 with others. The stored bytes
 // are as many as every fragment's, or as the last one's.
-fn repeat_number(fields: Fields, last: u16, index: u16, image: &[u8], content: &[u8]) -> u8
-    ensures { λ r. ⌜ r ≡ repeatNumber fields last index (now (image .entry)) (now (content .entry)) ⌝ }
+fn repeat_refusal(fields: Fields, last: u16, index: u16, image: &[u8], content: &[u8]) -> u8
+    ensures { λ r. ⌜ r ≡ repeatRefusal fields last index (now (image .entry)) (now (content .entry)) ⌝ }
 {
     let size = fields.size;
-    let length = last_length(fields, index, last, size);
+    let length = by_index(fields, index, last, size);
     let stored = part_of(image, product(index, size), length as usize);
     pick(same_bytes(content, stored), ALREADY_STORED, REPEAT_DIFFERS)
 }
 
 // 21: the numbers 10, 11, and 12 or 23 in order, else 0. Only a repeat is compared.
-pub fn fragment_number(
+pub fn fragment_refusal(
     fields: Fields,
     last: u16,
     index: u16,
@@ -93,7 +93,7 @@ pub fn fragment_number(
     map: &[u8],
     content: &[u8],
 ) -> u8
-    ensures { λ r. ⌜ r ≡ fragmentNumber fields last index (now (image .entry)) (now (map .entry)) (now (content .entry)) ⌝ }
+    ensures { λ r. ⌜ r ≡ fragmentRefusal fields last index (now (image .entry)) (now (map .entry)) (now (content .entry)) ⌝ }
 {
     if fields.total <= index {
         return BAD_INDEX;
@@ -104,7 +104,7 @@ pub fn fragment_number(
     if !bitmap::marked(map, index as usize) {
         return HANDLED;
     }
-    repeat_number(fields, last, index, image, content)
+    repeat_refusal(fields, last, index, image, content)
 }
 
 // The completed bytes pass: the package has no check code, or it is theirs.
@@ -145,7 +145,7 @@ pub fn completion(stored: u16, last: u16, fields: Fields, image: &[u8]) -> u8
 }
 
 // The first length for the last index, the second for any other.
-fn last_length(fields: Fields, index: u16, last: u16, other: u16) -> u16
+fn by_index(fields: Fields, index: u16, last: u16, other: u16) -> u16
     ensures { λ r. ⌜ r ≡ lastAfter fields index last other ⌝ }
 {
     if index as usize + 1 == fields.total as usize {
@@ -160,7 +160,7 @@ pub fn last_after(device: Device, index: u16, len: u16) -> u16
     ensures { λ r. ⌜ r ≡ lastAfter (device .fields) index len (device .last) ⌝ }
 {
     let fields = device.fields;
-    last_length(fields, index, len, device.last)
+    by_index(fields, index, len, device.last)
 }
 
 // 23: what the order to install is answered with. A weak signal is no obstacle.

@@ -65,6 +65,7 @@ kept =
     (device 2 (text 1) (text 2) 32 9 0 10 0 0x00, false) ∷
     (device 3 (text 1) (text 2) 32 9 0 9 33 0x00, false) ∷
     (device 4 (text 1) (text 2) 32 9 0 9 0 0x00, true) ∷
+    (device 4 (text 1) (text 2) 32 9 0 3 0 0x00, true) ∷  -- a count below total too, as after the number 23
     (device 5 (text 1) (text 2) 31 9 0 9 0 0x00, false) ∷
     (device 6 (text 1) (text 2) 32 9 0 9 0 0x00, true) ∷
     (device 6 (text 1) (text 2) 32 0 0 0 0 0x00, false) ∷

@@ -9,7 +9,7 @@ use Rattle.basis.proofs.Choosing.{by-cases, refusal-among}
 use Rattle.message.specs.Messages.{DeviceMessage, GatewayMessage, queryReply, announceReply, fragmentRequest, downloadReport, executeReply, resultReport}
 use Rattle.message.specs.Messages.{Reading, found, refused, toDevice, toGateway}
 use Rattle.codec.specs.Codec.{readOf, said}
-use Rattle.codec.proofs.WrittenRead.{read-refused}
+use Rattle.round_trips.proofs.WrittenRead.{read-refused}
 use Rattle.gateway_record.specs.declared.Gateway.{Gateway}
 use Rattle.gateway.specs.Rules.{After, onQueryReply, onAnnounceReply, onFragmentRequest, onDownloadReport, onExecuteReply, onResultReport, handle}
 use Rattle.gateway.specs.Rules.{receiveOf, wanted, nextMessageOf}

@@ -16,7 +16,7 @@ use Rattle.pcp.proofs.Carrying.{records-carried}
 use Rattle.upgrade.specs.Fold.{after, Allowed}
 use Rattle.upgrade.specs.Calls.{given, asked, finished, GatewayCall, Call, atDevice, atGateway, next, May}
 use Rattle.upgrade.specs.Records.{DeviceEnd, deviceNext, gatewayNext, records, World}
-use Rattle.upgrade.specs.Claims.{Executed, Installed, answerTo, Ended, Success, reached, InstalledBefore, Demand3Of, RepeatsAgreeOf, InstallLengthOf}
+use Rattle.upgrade.specs.Claims.{Executed, Installed, numberOf, Ended, Success, reached, InstalledBefore, Demand3Of, RepeatsAgreeOf, InstallLengthOf}
 use Rattle.upgrade.specs.Demand3.{Ready, start, deviceThen, gatewayThen}
 use Rattle.upgrade.proofs.Demand3.{demand-3, repeats-agree, install-length}
 use Rattle.upgrade.proofs.Joined.{joined}
@@ -133,14 +133,14 @@ module _ (content : List ℕ) (begin : Hosts) (fits : Fitting begin) where
   )
 
   -- a call is answered with the number of the same call over records
-  number-there : (h : Hosts) → Fitting h → (c : Call ℕ) → answerTo (hosts content) h c ≡ answerTo (records content) (seen h) (of c)
+  number-there : (h : Hosts) → Fitting h → (c : Call ℕ) → numberOf (hosts content) h c ≡ numberOf (records content) (seen h) (of c)
   number-there h f (atDevice c) = device-number-is (h .deviceEnd) c (f .device)
   number-there h f (atGateway c) = gateway-number-is content (h .gateway) c (f .gateway)
 
-  pub repeats-kept : RepeatsAgreeOf (records content) (seen begin) content → RepeatsAgreeOf (hosts content) begin content
+  pub repeats-kept : RepeatsAgreeOf (records content) (seen begin) → RepeatsAgreeOf (hosts content) begin
   repeats-kept agree calls a c m e =
       agree (map of calls) (allowed-there calls a) (of c) (subst (λ (w : World). May w (of c)) (there calls) (may-there (At calls) c m))
-      (sym (number-there (At calls) (fitting-at calls) c ∙ ap (λ (w : World). answerTo (records content) w (of c)) (there calls)) ∙ e)
+      (sym (number-there (At calls) (fitting-at calls) c ∙ ap (λ (w : World). numberOf (records content) w (of c)) (there calls)) ∙ e)
 
   pub length-kept : InstallLengthOf (records content) (seen begin) content → InstallLengthOf (hosts content) begin content
   length-kept long calls a earlier last split x =

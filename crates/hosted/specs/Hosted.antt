@@ -85,7 +85,7 @@ abbrev pub HostedUpgrade : Type 0
 HostedUpgrade = (b : HostedBefore) → HostedReady b → UpgradeOf (hosts (b .content)) (hostedStart b) (b .content)
 
 abbrev pub HostedRepeatsAgree : Type 0
-HostedRepeatsAgree = (b : HostedBefore) → HostedReady b → RepeatsAgreeOf (hosts (b .content)) (hostedStart b) (b .content)
+HostedRepeatsAgree = (b : HostedBefore) → HostedReady b → RepeatsAgreeOf (hosts (b .content)) (hostedStart b)
 
 abbrev pub HostedInstallLength : Type 0
 HostedInstallLength = (b : HostedBefore) → HostedReady b → InstallLengthOf (hosts (b .content)) (hostedStart b) (b .content)

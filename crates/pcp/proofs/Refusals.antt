@@ -5,8 +5,8 @@ use mathlib.Core.Path.{_≡_, refl, sym, _∙_, ap, subst}
 use mathlib.Core.Bool.{Bool}
 use mathlib.Core.List.{List}
 use lib.Dec.{eqb}
-use lib.ListN.{length, set}
-use borrow.Author.Tests.{ne-eqb, eqb-false, leb-true}
+use lib.ListN.{length, getD, set}
+use borrow.Author.Tests.{ne-eqb, eqb-true, eqb-false, leb-true}
 use Rattle.basis.specs.Choice.{pick}
 use Rattle.basis.specs.Numbers.{repeatDiffers}
 use Rattle.basis.specs.Bytes.{Bytes, over}
@@ -17,7 +17,7 @@ use Rattle.codec.specs.Codec.{readOf, said}
 use Rattle.round_trips.specs.Demand2.{RoundTrips}
 use Rattle.round_trips.proofs.RoundTrip.{device-round-trip, gateway-round-trip}
 use Rattle.device_record.specs.declared.Device.{Device}
-use Rattle.device_record.specs.Record.{failed, inPhase}
+use Rattle.device_record.specs.Record.{loading, failed, inPhase}
 use Rattle.device.specs.declared.Finished.{Finished}
 use Rattle.device.specs.Rules as device
 use Rattle.gateway_record.specs.declared.Gateway.{Gateway}
@@ -71,14 +71,14 @@ module _ (d : Device) (image map reply : List ℕ) where
   pub data DeviceOutcome (a : device.After) : Type 0 where
     done : a .number ≡ 0 → DeviceOutcome a
     declined : (n : ℕ) → Plain n → a ≡ device.refuse d image map reply n → DeviceOutcome a
-    differed : a ≡ device.differ d image map reply → DeviceOutcome a
+    differed : d .phase ≡ loading → a ≡ device.differ d image map reply → DeviceOutcome a
 
-  repeat-small : (index : ℕ) (bytes : List ℕ) → device.repeatNumber (d .fields) (d .last) index image bytes < 256
-  unfolding device.repeatNumber
+  repeat-small : (index : ℕ) (bytes : List ℕ) → device.repeatRefusal (d .fields) (d .last) index image bytes < 256
+  unfolding device.repeatRefusal
   repeat-small index bytes = by-cases (λ (n : ℕ). n < 256) (λ _. omega arith) (λ _. omega arith)
 
-  fragment-small : (index : ℕ) (bytes : List ℕ) → device.fragmentNumber (d .fields) (d .last) index image map bytes < 256
-  unfolding device.fragmentNumber
+  fragment-small : (index : ℕ) (bytes : List ℕ) → device.fragmentRefusal (d .fields) (d .last) index image map bytes < 256
+  unfolding device.fragmentRefusal
   fragment-small index bytes = refusal-among (λ n. n < 256) _ (omega arith) (omega arith, (omega arith, (repeat-small index bytes, tt)))
 
   device-handled : (condition : ℕ) (r : Reading DeviceMessage) → Small r → DeviceOutcome (device.handle d image map reply condition r)
@@ -90,10 +90,10 @@ module _ (d : Device) (image map reply : List ℕ) where
       by-cases DeviceOutcome (λ _. by-cases DeviceOutcome (λ _. done refl) (λ _. done refl)) (λ _. done refl)
   device-handled condition (found (fragment result index bytes)) small =
       by-cases DeviceOutcome
+      (λ p. by-cases DeviceOutcome (λ _. done refl)
       (λ _. by-cases DeviceOutcome (λ _. done refl)
       (λ _. by-cases DeviceOutcome (λ _. done refl)
-      (λ _. by-cases DeviceOutcome (λ _. done refl)
-      (λ _. by-cases DeviceOutcome (λ _. differed refl)
+      (λ _. by-cases DeviceOutcome (λ _. differed (eqb-true (d .phase) loading p) refl)
       (λ e. declined _ (fragment-small index bytes, eqb-false _ repeatDiffers e) refl)))))
       (λ _. declined 9 (omega arith) refl)
   device-handled condition (found (downloadReply result)) small =
@@ -116,7 +116,7 @@ module _ (d : Device) (image map reply : List ℕ) where
       at : (a : device.After) → DeviceOutcome a → a .number < 256
       at a (done e) = omega arith
       at a (declined n small e) = rw e (small .0)
-      at a (differed e) = rw e (omega arith)
+      at a (differed p e) = rw e (omega arith)
 
 module _ (g : Gateway) (content reply : List ℕ) where
   pub data GatewayOutcome (a : gateway.After) : Type 0 where
@@ -219,7 +219,8 @@ DeviceUntouched bytes image map reply g =
 DeviceFailed : (bytes image map reply : List ℕ) → DeviceGiven → Type 0
 DeviceFailed bytes image map reply g =
     numberIn (g .answer) ≡ repeatDiffers
-    → (lengthIn (g .answer) ≡ 0) × (g .bytes ≡ set bytes 0 failed) × (g .image ≡ image) × (g .map ≡ map) × (g .reply ≡ reply)
+    → (getD bytes 0 0 ≡ loading)
+    × (lengthIn (g .answer) ≡ 0) × (g .bytes ≡ set bytes 0 failed) × (g .image ≡ image) × (g .map ≡ map) × (g .reply ≡ reply)
 
 -- what a call leaves through bytes
 abbrev givenBy : (bytes : List ℕ) → device.After → DeviceGiven
@@ -232,7 +233,11 @@ unfolding DeviceUntouched
 device-untouched bytes image map reply b room a (done e) h = absurd (h .0 (omega arith))
 device-untouched bytes image map reply b room a (declined n small e) h =
     rw e (omega arith, device-back bytes b room, refl, refl, refl)
-device-untouched bytes image map reply b room a (differed e) h = absurd (h .1 (rw e (omega arith)))
+device-untouched bytes image map reply b room a (differed p e) h = absurd (h .1 (rw e (omega arith)))
+
+phase-at : (bytes : List ℕ) → getD bytes 0 0 ≡ deviceAt bytes .phase
+unfolding deviceAt
+phase-at bytes = refl
 
 device-failed : (bytes image map reply : List ℕ) → Bytes bytes → deviceLength ≤ length bytes → (a : device.After)
     → DeviceOutcome (deviceAt bytes) image map reply a → DeviceFailed bytes image map reply (givenBy bytes a)
@@ -240,7 +245,7 @@ unfolding DeviceFailed
 device-failed bytes image map reply b room a (done e) h = absurd (omega arith)
 device-failed bytes image map reply b room a (declined n small e) h =
     absurd (small .1 (let k : numberIn (packed n 0) ≡ repeatDiffers = rw e at h in omega arith))
-device-failed bytes image map reply b room a (differed e) h = rw e (omega arith, device-phase bytes failed b room, refl, refl, refl)
+device-failed bytes image map reply b room a (differed p e) h = rw e (phase-at bytes ∙ p, omega arith, device-phase bytes failed b room, refl, refl, refl)
 
 GatewayUntouched : (bytes reply : List ℕ) → GatewayGiven → Type 0
 GatewayUntouched bytes reply g = Refused (g .answer) → (lengthIn (g .answer) ≡ 0) × (g .bytes ≡ bytes) × (g .reply ≡ reply)
@@ -263,13 +268,13 @@ device-returned : (d : Device) (image map reply : List ℕ) (a : device.After) �
 device-returned d image map reply a (done e) h k = absurd (h e)
 device-returned d image map reply a (declined n small e) h k =
     e ∙ ap (device.refuse d image map reply) (sym (ap (λ (x : device.After). x .number) e))
-device-returned d image map reply a (differed e) h k = absurd (k (ap (λ (x : device.After). x .number) e))
+device-returned d image map reply a (differed p e) h k = absurd (k (ap (λ (x : device.After). x .number) e))
 
 device-returned-failed : (d : Device) (image map reply : List ℕ) (a : device.After) → DeviceOutcome d image map reply a → a .number ≡ repeatDiffers
-    → a ≡ device.differ d image map reply
+    → (d .phase ≡ loading) × (a ≡ device.differ d image map reply)
 device-returned-failed d image map reply a (done e) h = absurd (omega arith)
 device-returned-failed d image map reply a (declined n small e) h = absurd (small .1 (sym (ap (λ (x : device.After). x .number) e) ∙ h))
-device-returned-failed d image map reply a (differed e) h = e
+device-returned-failed d image map reply a (differed p e) h = (p, e)
 
 gateway-returned : (g : Gateway) (content reply : List ℕ) (a : gateway.After) → GatewayOutcome g content reply a → (a .number ≡ 0 → ⊥)
     → a ≡ gateway.refuse g content reply (a .number)
@@ -292,7 +297,7 @@ demand-1 =
           by-cases (DeviceUntouched bytes image map reply)
           (λ t. device-untouched bytes image map reply b (leb-true _ _ t) _ (device-outcome (deviceAt bytes) image map reply _ _ condition message))
           (λ _ h. (omega arith, refl, refl, refl, refl));
-      device-differs = λ bytes image map reply supported pcp condition message b.
+      device-repeat-differs = λ bytes image map reply supported pcp condition message b.
           by-cases (DeviceFailed bytes image map reply)
           (λ t. device-failed bytes image map reply b (leb-true _ _ t) _ (device-outcome (deviceAt bytes) image map reply _ _ condition message))
           (λ _ h. absurd (omega arith));
@@ -310,7 +315,7 @@ demand-1 =
           by-cases (Unsaid toDevice reply) (λ _. gateway-ask-refused (gatewayAt bytes) content reply) (λ _ h. (omega arith, refl));
       device-record = λ d image map reply supported pcp condition message.
           device-returned d image map reply _ (device-outcome d image map reply supported pcp condition message);
-      device-record-differs = λ d image map reply supported pcp condition message.
+      device-record-repeat-differs = λ d image map reply supported pcp condition message.
           device-returned-failed d image map reply _ (device-outcome d image map reply supported pcp condition message);
       device-finished-record = finished-returned;
       gateway-record = λ g content reply supported pcp message.

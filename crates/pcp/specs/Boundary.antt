@@ -1,14 +1,14 @@
--- What holds of every call through bytes: a refusal changes no buffer, but for 23, which changes the phase; and the next call finds the record
--- that the last one left. Assumes nothing.
+-- What holds of every call through bytes: a refusal changes no buffer, but for the number 23, which changes the phase; and the next call finds
+-- the record that the last one left. Assumes nothing.
 use Prim.Native.Nat.{ℕ, _/_, _%_, _≤_}
 use mathlib.Core.Path.{_≡_}
 use mathlib.Core.Bool.{Bool}
 use mathlib.Core.List.{List}
-use lib.ListN.{length, set}
+use lib.ListN.{length, getD, set}
 use Rattle.basis.specs.Numbers.{repeatDiffers}
 use Rattle.basis.specs.Bytes.{Bytes}
 use Rattle.device_record.specs.declared.Device.{Device}
-use Rattle.device_record.specs.Record.{failed, newOf}
+use Rattle.device_record.specs.Record.{loading, failed, newOf}
 use Rattle.device.specs.declared.Finished.{Finished}
 use Rattle.device.specs.Rules as device
 use Rattle.gateway_record.specs.declared.Gateway.{Gateway}
@@ -25,9 +25,9 @@ numberIn answer = answer % 256
 abbrev pub lengthIn : ℕ → ℕ
 lengthIn answer = answer / 256
 
--- ---- the project's demand 1, after 01's "Numbers returned" as 02 (2026-06) amends it: any number but 0 and 23 leaves every buffer as it was,
--- and no reply; 23, which only a message to the device can get, changes the phase in the record alone. A record buffer holds bytes, as any
--- memory does: the record that a refused call returns is put back as the bytes from which it was read
+-- ---- the project's demand 1, after 01's "Numbers returned" as 02 (2026-06) amends it: any number but 0 leaves every buffer as it was, and no
+-- reply, but for the number 23 of a message to the device, which changes the record's phase and nothing else. A record buffer holds bytes, as
+-- any memory does: the record that a refused call returns is put back as the bytes from which it was read
 
 abbrev pub Refused : ℕ → Type 0
 Refused answer = numberIn answer ≡ 0 → ⊥
@@ -41,11 +41,12 @@ pub record Demand1 : Type 0 where
   pub device-receive : (bytes image map reply : List ℕ) (supported pcp condition : ℕ) (message : List ℕ) → Bytes bytes
       → let g : DeviceGiven = deviceReceiveOf bytes image map reply supported pcp condition message in
       LeftAlone (g .answer) → (lengthIn (g .answer) ≡ 0) × (g .bytes ≡ bytes) × (g .image ≡ image) × (g .map ≡ map) × (g .reply ≡ reply)
-  -- the one exception: Failed in the place of the phase
-  pub device-differs : (bytes image map reply : List ℕ) (supported pcp condition : ℕ) (message : List ℕ) → Bytes bytes
+  -- the one exception: Loading becomes Failed
+  pub device-repeat-differs : (bytes image map reply : List ℕ) (supported pcp condition : ℕ) (message : List ℕ) → Bytes bytes
       → let g : DeviceGiven = deviceReceiveOf bytes image map reply supported pcp condition message in
       numberIn (g .answer) ≡ repeatDiffers
-      → (lengthIn (g .answer) ≡ 0) × (g .bytes ≡ set bytes 0 failed) × (g .image ≡ image) × (g .map ≡ map) × (g .reply ≡ reply)
+      → (getD bytes 0 0 ≡ loading)
+      × (lengthIn (g .answer) ≡ 0) × (g .bytes ≡ set bytes 0 failed) × (g .image ≡ image) × (g .map ≡ map) × (g .reply ≡ reply)
   pub device-next-message : (bytes image map reply : List ℕ) → let a : Asked = deviceNextMessageOf bytes image map reply in
       Refused (a .answer) → (lengthIn (a .answer) ≡ 0) × (a .reply ≡ reply)
   pub device-install-finished : (bytes : List ℕ) (code : ℕ) → Bytes bytes → let k : Left = deviceInstallFinishedOf bytes code in
@@ -58,13 +59,13 @@ pub record Demand1 : Type 0 where
       Refused (g .answer) → (lengthIn (g .answer) ≡ 0) × (g .bytes ≡ bytes) × (g .reply ≡ reply)
   pub gateway-next-message : (bytes content reply : List ℕ) → let a : Asked = gatewayNextMessageOf bytes content reply in
       Refused (a .answer) → (lengthIn (a .answer) ≡ 0) × (a .reply ≡ reply)
-  -- and of the record itself: a refused call returns the one that it was given, 23 the one in Failed
+  -- and of the record itself: a refused call returns the one that it was given, with the number 23 in Failed
   pub device-record : (d : Device) (image map reply : List ℕ) (supported pcp : Bool) (condition : ℕ) (message : List ℕ)
       → let a : device.After = device.receiveOf d image map reply supported pcp condition message in
       (a .number ≡ 0 → ⊥) → (a .number ≡ repeatDiffers → ⊥) → a ≡ device.refuse d image map reply (a .number)
-  pub device-record-differs : (d : Device) (image map reply : List ℕ) (supported pcp : Bool) (condition : ℕ) (message : List ℕ)
+  pub device-record-repeat-differs : (d : Device) (image map reply : List ℕ) (supported pcp : Bool) (condition : ℕ) (message : List ℕ)
       → let a : device.After = device.receiveOf d image map reply supported pcp condition message in
-      a .number ≡ repeatDiffers → a ≡ device.differ d image map reply
+      a .number ≡ repeatDiffers → (d .phase ≡ loading) × (a ≡ device.differ d image map reply)
   pub device-finished-record : (d : Device) (code : ℕ) → let f : Finished = device.installFinishedOf d code in
       (f .number ≡ 0 → ⊥) → f .device ≡ d
   pub gateway-record : (g : Gateway) (content reply : List ℕ) (supported pcp : Bool) (message : List ℕ)

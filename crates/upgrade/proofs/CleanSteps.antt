@@ -96,7 +96,7 @@ module _ (s : Setting) where
         (omega (arith, eqb-false (k + 1) (total s) n))))
 
     -- neither past the last, nor of a wrong length, nor stored already
-    tested : device-rules.fragmentNumber (fields s) (loading .device .last) k image map bytes ≡ 0
+    tested : device-rules.fragmentRefusal (fields s) (loading .device .last) k image map bytes ≡ 0
     tested = new-one (fields s) (loading .device .last) k image map bytes more long (new (s .content) (s .size) (some s) k image map front more)
 
     stored : (reply : List ℕ) → deviceTakes loading (fragment 0x00 k bytes) reply ≡ storing reply

@@ -8,6 +8,7 @@ pub mod GatewaySteps
 pub mod DeviceCalls
 pub mod DeviceSteps
 pub mod BeforeStart
+pub mod Repeats
 pub mod History
 pub mod Joined
 pub mod Worlds

@@ -2,6 +2,7 @@
 use Prim.Native.Nat.{ℕ, _*_}
 use native.Mathlib.Omega.{arith}
 use mathlib.Core.Path.{_≡_, refl, sym, _∙_, ap}
+use mathlib.Core.Bool.{true≢false}
 use mathlib.Core.List.{List, [], _∷_, List·Memᴰ, List·Memᴰ·head, List·Memᴰ·not-nil, List·Memᴰ·eq-of-singleton}
 use lib.ListN.{take, drop}
 use Rattle.basis.specs.Choice.{pick, refusal, oneOf}
@@ -42,7 +43,7 @@ unfolding pick refusal oneOf part same over patched doubled entryOf step registe
     device-record.newOf device-record.downloadOk device-record.recordOk device-record.mapBytes device-record.memoryOk device.begin device.store
     device.onQuery device.onAnnounce device.onFragment device.onDownloadReply device.onExecute device.onResultReply device.handle device.receiveOf
     device.wanted device.nextMessageOf device.installFinishedOf device.announceResult device.sameFields device.resumes device.fragmentLength
-    device.repeatNumber device.fragmentNumber device.passes device.completion device.executeResult
+    device.repeatRefusal device.fragmentRefusal device.passes device.completion device.executeResult
     gateway-record.totalOf gateway-record.lengthOk gateway-record.fragmentOf
     gateway-record.startOf gateway-record.recordOk decisions.afterQuery decisions.serving decisions.fragmentResult decisions.installEnding
     gateway.fragmentReply gateway.onQueryReply gateway.onAnnounceReply gateway.onFragmentRequest gateway.onDownloadReport gateway.onExecuteReply
@@ -76,4 +77,8 @@ witnesses =
         installed = (refl, refl);
         not-ended = λ e. let z : _≡_ {A = ℕ} 3 4 = e in omega arith;
       };
+      repeat-allowed = (tt, (heard, (heard, (tt, (heard, (heard, (heard, tt)))))));
+      repeat-number = refl;
+      ready-failed = record { device-made = refl; gateway-started = refl; offering = refl; held = λ h. absurd (true≢false (sym h)) };
+      crossed-failed = refl;
     }

@@ -30,9 +30,9 @@ module _ (e : Ends) where
   Installed w (atGateway c) = ⊥
 
   -- The number with which a call is answered.
-  abbrev pub answerTo : Both e → Call (e .Fact) → ℕ
-  answerTo w (atDevice c) = e .device .does (w .deviceEnd) c .number
-  answerTo w (atGateway c) = e .gateway .does (w .gateway) c .number
+  abbrev pub numberOf : Both e → Call (e .Fact) → ℕ
+  numberOf w (atDevice c) = e .device .does (w .deviceEnd) c .number
+  numberOf w (atGateway c) = e .gateway .does (w .gateway) c .number
 
   -- The gateway is Ended.
   abbrev pub Ended : Both e → Type 0
@@ -61,6 +61,14 @@ module _ (e : Ends) where
       pub installed : Installed (reached (earlier ++ (execution ∷ between))) installation
       pub not-ended : Ended (reached (earlier ++ (execution ∷ between))) → ⊥
 
+    -- a claim of all lists of calls that may be made from the start on
+    abbrev pub Always : (List (Call (e .Fact)) → Type 0) → Type 0
+    Always Claim = (calls : List (Call (e .Fact))) → Allowed (next e) May start calls → Claim calls
+
+    -- no call that may be made is answered 23: what comes again is what was stored (02, 2026-06)
+    abbrev pub RepeatsAgreeOf : Type 0
+    RepeatsAgreeOf = Always (λ calls. (c : Call (e .Fact)) → May (reached calls) c → numberOf (reached calls) c ≡ repeatDiffers → ⊥)
+
     module _ (content : List ℕ) where
       -- Where the last call brought that reply, the image begins with the package, and past it the image was, at the start and after each
       -- call since, the same.
@@ -86,9 +94,6 @@ module _ (e : Ends) where
 
       -- ---- of all lists of calls that may be made from the start on
 
-      abbrev pub Always : (List (Call (e .Fact)) → Type 0) → Type 0
-      Always Claim = (calls : List (Call (e .Fact))) → Allowed (next e) May start calls → Claim calls
-
       -- demand 3: both halves
       abbrev pub Demand3Of : Type 0
       Demand3Of = Always (λ calls. ExecutedImage calls × (Success (reached calls) → InstalledBefore calls))
@@ -97,10 +102,6 @@ module _ (e : Ends) where
       -- installer's end with 00 after that
       abbrev pub UpgradeOf : Type 0
       UpgradeOf = Always (λ calls. Success (reached calls) → UpgradedBefore calls)
-
-      -- no call that may be made is answered 23: what comes again is what was stored (02, 2026-06)
-      abbrev pub RepeatsAgreeOf : Type 0
-      RepeatsAgreeOf = Always (λ calls. (c : Call (e .Fact)) → May (reached calls) c → answerTo (reached calls) c ≡ repeatDiffers → ⊥)
 
       -- what is there to be installed is as long as the package
       abbrev pub InstallLengthOf : Type 0

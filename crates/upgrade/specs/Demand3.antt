@@ -64,7 +64,7 @@ Upgrade = (b : Before) → Ready b → UpgradeOf (records (b .content)) (start b
 
 -- Beside it: no call after the start is answered 23.
 abbrev pub RepeatsAgree : Type 0
-RepeatsAgree = (b : Before) → Ready b → RepeatsAgreeOf (records (b .content)) (start b) (b .content)
+RepeatsAgree = (b : Before) → Ready b → RepeatsAgreeOf (records (b .content)) (start b)
 
 -- And what is there to be installed is as long as the package.
 abbrev pub InstallLength : Type 0

@@ -4,6 +4,7 @@ pub mod Records
 pub mod Held
 pub mod Claims
 pub mod Demand3
+pub mod Repeats
 pub mod Clean
 pub mod Counted
 pub mod Witnesses

@@ -4,17 +4,18 @@ use mathlib.Core.Path.{_≡_}
 use mathlib.Core.Bool.{Bool, true}
 use mathlib.Core.List.{List, [], _∷_, _++_}
 use lib.ListN.{take, replicate}
+use Rattle.basis.specs.Numbers.{alreadyStored}
 use Rattle.message.specs.declared.Fields.{Fields}
 use Rattle.message.specs.Limits.{deviceRoom, gatewayRoom}
 use Rattle.message.specs.Messages.{DeviceMessage, GatewayMessage, announce, fragment, execute, queryReply, announceReply, fragmentRequest, downloadReport}
 use Rattle.message.specs.Messages.{resultReport, toDevice, toGateway}
 use Rattle.checksum.specs.Check.{checkOf}
 use Rattle.codec.specs.Codec.{bytesOf}
-use Rattle.device_record.specs.Record.{loading}
+use Rattle.device_record.specs.Record.{loading, failed}
 use Rattle.upgrade.specs.Fold.{Allowed}
 use Rattle.upgrade.specs.Calls.{DeviceCall, given, asked, finished, GatewayCall, Call, atDevice, atGateway, next, May}
 use Rattle.upgrade.specs.Records.{records, World}
-use Rattle.upgrade.specs.Claims.{Success, reached, InstalledBefore}
+use Rattle.upgrade.specs.Claims.{numberOf, Success, reached, InstalledBefore}
 use Rattle.upgrade.specs.Demand3.{Before, deviceThen, gatewayThen, heldThen, Ready, start}
 use Rattle.upgrade.specs.Clean.{CleanStart}
 
@@ -59,12 +60,32 @@ past calls =
       gatewayCalls = toldGateway (queryReply 0x00 old) ∷ [];
     }
 
--- a device just made, and one that holds the first of the offer's two fragments
+-- the first of the offer's two fragments
+abbrev pub first : DeviceCall Bool
+first = toldDevice (fragment 0x00 0 (take 32 content))
+
+-- a device just made, and one that holds it
 abbrev pub fresh : Before
 fresh = past []
 
 abbrev pub half : Before
-half = past (toldDevice (announce offer) ∷ toldDevice (fragment 0x00 0 (take 32 content)) ∷ [])
+half = past (toldDevice (announce offer) ∷ first ∷ [])
+
+-- one to which that fragment came again as another build has it
+abbrev pub crossed : Before
+crossed =
+    past (toldDevice (announce offer) ∷ first ∷ toldDevice (fragment 0x00 0 (replicate 32 0x43)) ∷ [])
+
+-- the offer, and the first fragment, which then comes again
+abbrev pub begun : List (Call Bool)
+begun =
+    atGateway askedGateway
+    ∷ atDevice (toldDevice (announce offer))
+    ∷ atGateway (toldGateway (announceReply 0x00))
+    ∷ atDevice askedDevice
+    ∷ atGateway (toldGateway (fragmentRequest new 0))
+    ∷ atDevice first
+    ∷ []
 
 -- an upgrade, up to the order to install; the order, and the installer's end; the report
 abbrev pub download : List (Call Bool)
@@ -101,3 +122,9 @@ pub record Witnesses : Type 0 where
   pub allowed : Allowed (next (records content)) May (start half) calls
   pub success : Success (records content) (reached (records content) (start half) calls)
   pub history : InstalledBefore (records content) (start half) calls
+  -- a fragment may come again after the start, with number 12 (02, 2026-06)
+  pub repeat-allowed : Allowed (next (records content)) May (start fresh) (begun ++ (atDevice first ∷ []))
+  pub repeat-number : numberOf (records content) (reached (records content) (start fresh) begun) (atDevice first) ≡ alreadyStored
+  -- and a start may follow the number 23, which the past of `crossed` ends in
+  pub ready-failed : Ready crossed
+  pub crossed-failed : deviceThen crossed .device .phase ≡ failed

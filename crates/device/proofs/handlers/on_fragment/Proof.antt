@@ -59,8 +59,8 @@ returns-4 c = (
   λ n e p. no-other enum _ _ 3 e tt (c .before .before .before .before .before .before .before .match .keys1),
 )
 
-fragment-number-requires : tie.Need-fragment-number-requires
-fragment-number-requires c κs = search needs
+fragment-refusal-requires : tie.Need-fragment-refusal-requires
+fragment-refusal-requires c κs = search needs
 
 in-phase-requires-2 : tie.Need-in-phase-requires-2
 in-phase-requires-2 c κs = search needs
@@ -81,7 +81,7 @@ returns-5 c =
     let s = t .before .before .before .before .before in (
       of-fragment _ _ _ _ (t .message .given .1)
           (λ p. c .refused3 .ensures _ _ p ∙ rw (c .before .in-phase2 .ensures) (sym (differs _ _ _ p _ _ (s .args .content .now)
-          (r .before .before .if1 .left) (r .before .if2 .left) (r .if3 .left) _ (c .before .before .before .fragment-number .ensures)
+          (r .before .before .if1 .left) (r .before .if2 .left) (r .if3 .left) _ (c .before .before .before .fragment-refusal .ensures)
           (c .before .before .if4 .taken)))),
       λ n e p. no-other enum _ _ 3 e tt (t .before .match .keys1),
     )
@@ -102,7 +102,7 @@ returns-6 c =
     let s = t .before .before .before .before .before in (
       of-fragment _ _ _ _ (t .message .given .1)
           (λ p. c .refused4 .ensures _ _ p ∙ sym (refused-first _ _ _ p _ _ (s .args .content .now)
-          (r .before .before .if1 .left) (r .before .if2 .left) (r .if3 .left) _ (c .before .before .before .fragment-number .ensures)
+          (r .before .before .if1 .left) (r .before .if2 .left) (r .if3 .left) _ (c .before .before .before .fragment-refusal .ensures)
           (c .before .if5 .taken) (c .before .before .if4 .left))),
       λ n e p. no-other enum _ _ 3 e tt (t .before .match .keys1),
     )
@@ -112,7 +112,7 @@ store-requires c κs =
     let r = c .before .before .before .before .before .before .before .before in
     let s = r .before .before .before .before .before .before .before .before .before .before in
     let f = fragment-passed _ _ _ (s .args .image .now) (s .args .map .now) (s .args .content .now)
-    (sym (c .before .before .before .before .fragment-number .ensures) ∙ c .before .before .if5 .left) in
+    (sym (c .before .before .before .before .fragment-refusal .ensures) ∙ c .before .before .if5 .left) in
     (s .pre .0, (r .before .before .if1 .left, (s .pre .1, (f .below, f .long))))
 
 same-length-5 : tie.Need-same-length-5
@@ -129,7 +129,7 @@ returns-7 c =
     let s = u .before .before .before .before .before in (
       of-fragment _ _ _ _ (u .message .given .1)
           (λ p. c .before .before .before .before .store .ensures p ∙ sym (stores _ _ _ p _ _ (s .args .content .now)
-          (t .before .before .if1 .left) (t .before .if2 .left) (t .if3 .left) _ (r .before .before .fragment-number .ensures) (r .if5 .left))),
+          (t .before .before .if1 .left) (t .before .if2 .left) (t .if3 .left) _ (r .before .before .fragment-refusal .ensures) (r .if5 .left))),
       λ n e p. no-other enum _ _ 3 e tt (u .before .match .keys1),
     )
 
@@ -148,7 +148,7 @@ on-fragment-spec =
     returns-3
     moved-requires-2
     returns-4
-    fragment-number-requires
+    fragment-refusal-requires
     in-phase-requires-2
     refused-requires-3
     same-length

@@ -1,10 +1,10 @@
--- `device_decisions::last_length` meets its contract: the last fragment is told by its index. Assumes nothing.
+-- `device_decisions::by_index` meets its contract: the last fragment is told by its index. Assumes nothing.
 use borrow.Author.Tests.{eq-eqb, ne-eqb}
 use borrow.Author.Needs.{needs}
 use mathlib.Core.Path.{sym}
 use Rattle.basis.proofs.Choosing.{pick-yes, pick-no}
-use Rattle.device_decisions.proofs.last_length.Statement.{statement}
-use Rattle.device_decisions.proofs.last_length.Tie as tie
+use Rattle.device_decisions.proofs.by_index.Statement.{statement}
+use Rattle.device_decisions.proofs.by_index.Tie as tie
 
 add-if1 : tie.Need-add-if1
 add-if1 c = search needs
@@ -18,5 +18,5 @@ returns c = sym (pick-yes _ _ _ (eq-eqb _ _ (c .if1 .taken)))
 returns-2 : tie.Need-returns-2
 returns-2 c = sym (pick-no _ _ _ (ne-eqb _ _ (c .if1 .left)))
 
-pub last-length-spec : {M : Type 1} → statement M
-last-length-spec = tie.close (tie.spec add-if1 cast-if1 returns returns-2)
+pub by-index-spec : {M : Type 1} → statement M
+by-index-spec = tie.close (tie.spec add-if1 cast-if1 returns returns-2)

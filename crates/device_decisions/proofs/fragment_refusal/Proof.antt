@@ -1,10 +1,10 @@
--- `device_decisions::fragment_number` meets its contract: 10, 11, and 12 or 23 by tests that are the rule's in their order. Assumes nothing.
+-- `device_decisions::fragment_refusal` meets its contract: 10, 11, and 12 or 23 by tests that are the rule's in their order. Assumes nothing.
 use mathlib.Core.Path.{sym, _∙_}
 use borrow.Author.Needs.{needs}
 use borrow.Author.Tests.{not-true, not-false}
 use Rattle.device_decisions.proofs.Tested.{past-total, wrong-length, new-one, repeated}
-use Rattle.device_decisions.proofs.fragment_number.Statement.{statement}
-use Rattle.device_decisions.proofs.fragment_number.Tie as tie
+use Rattle.device_decisions.proofs.fragment_refusal.Statement.{statement}
+use Rattle.device_decisions.proofs.fragment_refusal.Tie as tie
 
 returns : tie.Need-returns
 returns c = sym (past-total _ _ _ _ _ _ (c .if1 .taken))
@@ -24,18 +24,18 @@ returns-3 c =
     (sym (c .before .before .before .fragment-length .ensures) ∙ not-false _ (c .before .before .if2 .left))
     (sym (c .before .marked .ensures) ∙ not-true _ (c .if3 .taken)))
 
-repeat-number-requires : tie.Need-repeat-number-requires
-repeat-number-requires c κs = search needs
+repeat-refusal-requires : tie.Need-repeat-refusal-requires
+repeat-refusal-requires c κs = search needs
 
 returns-4 : tie.Need-returns-4
 returns-4 c =
-    c .repeat-number .ensures
+    c .repeat-refusal .ensures
     ∙ sym (repeated _ _ _ _ _ _ (c .before .before .before .before .before .if1 .left)
     (sym (c .before .before .before .before .fragment-length .ensures) ∙ not-false _ (c .before .before .before .if2 .left))
     (sym (c .before .before .marked .ensures) ∙ not-false _ (c .before .if3 .left)))
 
-pub fragment-number-spec : {M : Type 1} → statement M
-fragment-number-spec =
+pub fragment-refusal-spec : {M : Type 1} → statement M
+fragment-refusal-spec =
     tie.close
     (tie.spec
     returns
@@ -43,5 +43,5 @@ fragment-number-spec =
     returns-2
     marked-requires
     returns-3
-    repeat-number-requires
+    repeat-refusal-requires
     returns-4)

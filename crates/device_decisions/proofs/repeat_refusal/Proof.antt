@@ -1,11 +1,11 @@
--- `device_decisions::repeat_number` meets its contract: the stored part of the image is what the rule compares with. Assumes nothing.
+-- `device_decisions::repeat_refusal` meets its contract: the stored part of the image is what the rule compares with. Assumes nothing.
 use borrow.Author.Needs.{needs}
-use Rattle.device_decisions.specs.Decisions.{repeatNumber}
-use Rattle.device_decisions.proofs.repeat_number.Statement.{statement}
-use Rattle.device_decisions.proofs.repeat_number.Tie as tie
+use Rattle.device_decisions.specs.Decisions.{repeatRefusal}
+use Rattle.device_decisions.proofs.repeat_refusal.Statement.{statement}
+use Rattle.device_decisions.proofs.repeat_refusal.Tie as tie
 
-last-length-requires : tie.Need-last-length-requires
-last-length-requires c κs = search needs
+by-index-requires : tie.Need-by-index-requires
+by-index-requires c κs = search needs
 
 product-requires : tie.Need-product-requires
 product-requires c κs = search needs
@@ -23,21 +23,21 @@ pick-requires : tie.Need-pick-requires
 pick-requires c κs = search needs
 
 returns : tie.Need-returns
-unfolding repeatNumber
+unfolding repeatRefusal
 returns c =
     rw (
       c .pick .ensures,
       c .before .same-bytes .ensures,
       c .before .before .part-of .ensures .bytes,
       c .before .before .before .product .ensures,
-      c .before .before .before .before .last-length .ensures,
+      c .before .before .before .before .by-index .ensures,
     )
 
-pub repeat-number-spec : {M : Type 1} → statement M
-repeat-number-spec =
+pub repeat-refusal-spec : {M : Type 1} → statement M
+repeat-refusal-spec =
     tie.close
     (tie.spec
-    last-length-requires
+    by-index-requires
     product-requires
     cast-part-of
     part-of-requires
