@@ -1,6 +1,7 @@
 -- The witnesses of the premises over hosts: all by computation. Assumes nothing.
 use native.Mathlib.Omega.{arith}
-use mathlib.Core.Path.{refl}
+use mathlib.Core.Path.{refl, sym}
+use mathlib.Core.Bool.{true≢false}
 use mathlib.Core.List.{List·Memᴰ·not-nil}
 use Rattle.basis.specs.Choice.{pick, refusal, oneOf}
 use Rattle.basis.specs.Bytes.{part, same, over, patched}
@@ -60,5 +61,14 @@ hosted-witnesses =
         gateway-started = refl;
         offering = refl;
         held = λ _ _ index bytes m. first-only index bytes m;
+      };
+      crossed-number = refl;
+      crossed-failed = refl;
+      ready-failed = record {
+        device-made = record { fits = omega arith; made = refl };
+        gateway-fits = omega arith;
+        gateway-started = refl;
+        offering = refl;
+        held = λ h. absurd (true≢false (sym h));
       };
     }

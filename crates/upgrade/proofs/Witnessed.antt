@@ -79,6 +79,7 @@ witnesses =
       };
       repeat-allowed = (tt, (heard, (heard, (tt, (heard, (heard, (heard, tt)))))));
       repeat-number = refl;
-      ready-failed = record { device-made = refl; gateway-started = refl; offering = refl; held = λ h. absurd (true≢false (sym h)) };
+      crossed-number = refl;
       crossed-failed = refl;
+      ready-failed = record { device-made = refl; gateway-started = refl; offering = refl; held = λ h. absurd (true≢false (sym h)) };
     }

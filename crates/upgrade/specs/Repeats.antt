@@ -1,17 +1,21 @@
--- What a repeat is compared with (02, 2026-06), after any calls of a device that was made fresh: the fragment that Held has for its index. So
--- fragments of two builds cannot be joined unseen where one of them comes twice. Assumes nothing.
-use Prim.Native.Nat.{ℕ, _<_}
+-- What a repeat is answered (02, 2026-06), after any calls of a device that was made fresh: it is compared with the fragment that Held has for
+-- its index. So where two builds differ in a fragment, and it comes from both, one after the other, that is seen. Assumes nothing.
+use Prim.Native.Nat.{ℕ, _<_, _≤_}
 use mathlib.Core.Path.{_≡_}
-use mathlib.Core.Bool.{true}
+use mathlib.Core.Bool.{Bool, true}
 use mathlib.Core.List.{List, List·Memᴰ}
 use lib.ListN.{length}
 use Rattle.basis.specs.Choice.{pick}
 use Rattle.basis.specs.Numbers.{alreadyStored, repeatDiffers}
 use Rattle.basis.specs.Bytes.{same}
+use Rattle.message.specs.Limits.{deviceRoom}
+use Rattle.message.specs.Messages.{found, fragment, toDevice}
+use Rattle.codec.specs.Codec.{readOf}
 use Rattle.bitmap.specs.Bitmap.{marked}
-use Rattle.device_record.specs.Record.{newOf, loading}
-use Rattle.device_decisions.specs.Decisions.{fragmentLength, fragmentRefusal}
-use Rattle.upgrade.specs.Records.{DeviceEnd}
+use Rattle.device_record.specs.Record.{newOf, conditionOk, loading}
+use Rattle.device_decisions.specs.Decisions.{fragmentLength}
+use Rattle.upgrade.specs.Calls.{given}
+use Rattle.upgrade.specs.Records.{deviceDoes}
 use Rattle.upgrade.specs.Demand3.{Before, deviceThen, heldThen}
 
 module _ (b : Before) (index : ℕ) (again : List ℕ) where
@@ -23,12 +27,13 @@ module _ (b : Before) (index : ℕ) (again : List ℕ) where
     pub long : fragmentLength (deviceThen b .device .fields) index (length again) ≡ true
     pub stored : marked (deviceThen b .map) index ≡ true
 
-  -- a fragment held decides: 12 with the same bytes, as many, 23 with others
+  -- a fragment held decides the number of any call that brings the repeat: 12 with the same bytes, as many, 23 with others
   pub record Compared : Type 0 where
     pub bytes : List ℕ
     pub held : List·Memᴰ (index, bytes) (heldThen b .fragments)
-    pub number : let e : DeviceEnd = deviceThen b in
-        fragmentRefusal (e .device .fields) (e .device .last) index (e .image) (e .map) again ≡ pick (same again bytes) alreadyStored repeatDiffers
+    pub number : (supported pcp : Bool) (condition : ℕ) (message reply : List ℕ) → conditionOk condition ≡ true → deviceRoom ≤ length reply
+        → readOf toDevice supported pcp message ≡ found (fragment 0x00 index again)
+        → deviceDoes (deviceThen b) (given supported pcp condition message reply) .number ≡ pick (same again bytes) alreadyStored repeatDiffers
 
 abbrev pub RepeatsCompared : Type 0
 RepeatsCompared = (b : Before) (index : ℕ) (again : List ℕ) → Repeat b index again → Compared b index again

@@ -4,7 +4,7 @@ use mathlib.Core.Path.{_≡_}
 use mathlib.Core.Bool.{Bool, true}
 use mathlib.Core.List.{List, [], _∷_, _++_}
 use lib.ListN.{take, replicate}
-use Rattle.basis.specs.Numbers.{alreadyStored}
+use Rattle.basis.specs.Numbers.{alreadyStored, repeatDiffers}
 use Rattle.message.specs.declared.Fields.{Fields}
 use Rattle.message.specs.Limits.{deviceRoom, gatewayRoom}
 use Rattle.message.specs.Messages.{DeviceMessage, GatewayMessage, announce, fragment, execute, queryReply, announceReply, fragmentRequest, downloadReport}
@@ -14,7 +14,7 @@ use Rattle.codec.specs.Codec.{bytesOf}
 use Rattle.device_record.specs.Record.{loading, failed}
 use Rattle.upgrade.specs.Fold.{Allowed}
 use Rattle.upgrade.specs.Calls.{DeviceCall, given, asked, finished, GatewayCall, Call, atDevice, atGateway, next, May}
-use Rattle.upgrade.specs.Records.{records, World}
+use Rattle.upgrade.specs.Records.{deviceDoes, records, World}
 use Rattle.upgrade.specs.Claims.{numberOf, Success, reached, InstalledBefore}
 use Rattle.upgrade.specs.Demand3.{Before, deviceThen, gatewayThen, heldThen, Ready, start}
 use Rattle.upgrade.specs.Clean.{CleanStart}
@@ -71,10 +71,12 @@ fresh = past []
 abbrev pub half : Before
 half = past (toldDevice (announce offer) ∷ first ∷ [])
 
--- one to which that fragment came again as another build has it
+-- that fragment as another build has it, and a device to which it came behind the offer's
+abbrev pub other : DeviceCall Bool
+other = toldDevice (fragment 0x00 0 (replicate 32 0x43))
+
 abbrev pub crossed : Before
-crossed =
-    past (toldDevice (announce offer) ∷ first ∷ toldDevice (fragment 0x00 0 (replicate 32 0x43)) ∷ [])
+crossed = past (toldDevice (announce offer) ∷ first ∷ other ∷ [])
 
 -- the offer, and the first fragment, which then comes again
 abbrev pub begun : List (Call Bool)
@@ -125,6 +127,7 @@ pub record Witnesses : Type 0 where
   -- a fragment may come again after the start, with number 12 (02, 2026-06)
   pub repeat-allowed : Allowed (next (records content)) May (start fresh) (begun ++ (atDevice first ∷ []))
   pub repeat-number : numberOf (records content) (reached (records content) (start fresh) begun) (atDevice first) ≡ alreadyStored
-  -- and a start may follow the number 23, which the past of `crossed` ends in
-  pub ready-failed : Ready crossed
+  -- and a start may follow the number 23, in which the past of `crossed` ends
+  pub crossed-number : deviceDoes (deviceThen half) other .number ≡ repeatDiffers
   pub crossed-failed : deviceThen crossed .device .phase ≡ failed
+  pub ready-failed : Ready crossed
