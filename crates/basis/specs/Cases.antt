@@ -1,4 +1,4 @@
--- Rules in computed cases: a table has a row for each case, with what is given to the rule and what 01 answers. Assumes nothing.
+-- Rules in computed cases: a table has a row for each case, with what is given to the rule and what the papers answer. Assumes nothing.
 use Prim.Native.Nat.{ℕ, zero, suc}
 use mathlib.Core.Path.{_≡_}
 use mathlib.Core.Bool.{Bool}

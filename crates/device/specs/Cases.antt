@@ -105,6 +105,10 @@ places a b c = replicate 32 a ++ (replicate 32 b ++ replicate 32 c)
 abbrev filled : List ℕ
 filled = replicate 32 0x41 ++ (replicate 32 0x42 ++ (0x43 ∷ zeros 31))
 
+-- ten places of 40 bytes, the ninth filled
+abbrev ninth : List ℕ
+ninth = zeros 320 ++ (replicate 40 0x41 ++ zeros 40)
+
 -- before a message; the message; after it
 abbrev pub changes : List (State × DeviceMessage × State)
 changes =
@@ -123,7 +127,14 @@ changes =
     -- the last one again, of 7 bytes: nothing changes; of 6: the phase alone
     ((holds 1 1 7, places 1 2 3, 0x04 ∷ []), fragment 0x00 2 (replicate 7 3), (holds 1 1 7, places 1 2 3, 0x04 ∷ [])) ∷
     ((holds 1 1 7, places 1 2 3, 0x04 ∷ []), fragment 0x00 2 (replicate 6 3), (holds 4 1 7, places 1 2 3, 0x04 ∷ [])) ∷
-    -- only the phase changes: 21 with 80 and with 81, 22, 23
+    -- the ninth of ten again, of 40 bytes: the same; one byte in the middle is another
+    ((held 1 2 40 10 5 1 0, ninth, 0x00 ∷ 0x01 ∷ []), fragment 0x00 8 (replicate 40 0x41), (held 1 2 40 10 5 1 0, ninth, 0x00 ∷ 0x01 ∷ [])) ∷ (
+      (held 1 2 40 10 5 1 0, ninth, 0x00 ∷ 0x01 ∷ []),
+      fragment 0x00 8 (replicate 35 0x41 ++ (0x42 ∷ replicate 4 0x41)),
+      (held 4 2 40 10 5 1 0, ninth, 0x00 ∷ 0x01 ∷ []),
+    )
+    ∷
+    -- 21 with 80, 22, 23: the phase alone changes; 21 with 81: nothing
     ((holds 1 1 7, places 1 2 3, 0x02 ∷ []), fragment 0x80 0 [], (holds 0 1 7, places 1 2 3, 0x02 ∷ [])) ∷
     ((holds 1 1 7, places 1 2 3, 0x02 ∷ []), fragment 0x81 0 [], (holds 1 1 7, places 1 2 3, 0x02 ∷ [])) ∷
     ((holds 2 3 7, places 1 2 3, 0x07 ∷ []), downloadReply 0x00, (holds 3 3 7, places 1 2 3, 0x07 ∷ [])) ∷

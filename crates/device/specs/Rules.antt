@@ -34,7 +34,7 @@ module _ (d : Device) (image map reply : List ℕ) where
   abbrev pub refuse : ℕ → After
   refuse n = record { number = n; length = 0; device = d; image = image; map = map; reply = reply }
 
-  -- 23, a repeat that differs: the phase is Failed, and all else is as for a refusal
+  -- the number 23, a repeat that differs: the phase is Failed, and all else is as for a refusal
   abbrev pub differ : After
   differ = record { number = repeatDiffers; length = 0; device = inPhase failed d; image = image; map = map; reply = reply }
 
@@ -80,7 +80,7 @@ module _ (d : Device) (image map reply : List ℕ) where
       let result : ℕ = announceResult d condition f image map in
       pick (eqb result 0) (pick (resumes d f) (replied d (announceReply 0x00)) (begin f)) (replied d (announceReply result))
 
-  -- 21 in Loading: 80 goes Idle, 81 changes nothing; else 10, 11, 12 or 23, or stored
+  -- 21 in Loading: 80 goes Idle, 81 changes nothing; else the number 10, 11, 12 or 23, or stored
   unfoldable pub onFragment : (result index : ℕ) → List ℕ → After
   onFragment result index bytes =
       let n : ℕ = fragmentRefusal (d .fields) (d .last) index image map bytes in

@@ -62,7 +62,7 @@ fn handle(
 }
 
 // A message is given. On 0 the reply fills the front of its buffer; on any other number nothing is
-// written; with 23 the record that is returned is in Failed.
+// written; with the number 23 the record that is returned is in Failed.
 pub fn receive(
     device: Device,
     supported: bool,

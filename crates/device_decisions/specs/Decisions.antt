@@ -38,19 +38,23 @@ isLast f index = eqb (index + 1) (f .total)
 unfoldable pub fragmentLength : Fields → (index length : ℕ) → Bool
 fragmentLength f index n = pick (isLast f index) (leb 1 n && leb n (f .size)) (eqb n (f .size))
 
+-- one number for the last index, another for every other
+abbrev pub byIndex : Fields → (index last other : ℕ) → ℕ
+byIndex f index last other = pick (isLast f index) last other
+
 -- the last length, once a fragment of n bytes is stored
 abbrev pub lastAfter : Fields → (index n last : ℕ) → ℕ
-lastAfter f index n last = pick (isLast f index) n last
+lastAfter f index n last = byIndex f index n last
 
 -- the bytes of an index that is stored: at its place, size long, those of the last one last length long
 abbrev pub storedBytes : Fields → (last index : ℕ) (image : List ℕ) → List ℕ
-storedBytes f last index image = take (pick (isLast f index) last (f .size)) (drop (index * f .size) image)
+storedBytes f last index image = take (byIndex f index last (f .size)) (drop (index * f .size) image)
 
--- 21 of an index that is stored: number 12 with the same bytes and length, 23 with others (02, 2026-06)
+-- 21 of an index that is stored: the number 12 with the same bytes and length, the number 23 with others (02, 2026-06)
 unfoldable pub repeatRefusal : Fields → (last index : ℕ) (image bytes : List ℕ) → ℕ
 repeatRefusal f last index image bytes = pick (same bytes (storedBytes f last index image)) alreadyStored repeatDiffers
 
--- 21: numbers 10, 11, and 12 or 23 in order, else 0
+-- 21: the numbers 10, 11, and 12 or 23 in order, else 0
 unfoldable pub fragmentRefusal : Fields → (last index : ℕ) (image map bytes : List ℕ) → ℕ
 fragmentRefusal f last index image map bytes =
     refusal

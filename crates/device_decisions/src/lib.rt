@@ -1,5 +1,6 @@
 // What the device decides of the messages that it is given: the tests of 20, 21 and 23 (01, "The
-// head"), each by itself, over the record and plain values. Nothing is written here.
+// head", as 02, 2026-06, amends it), each by itself, over the record and plain values. Nothing is
+// written here.
 use basis::least;
 use basis::number::ALREADY_STORED;
 use basis::number::BAD_FRAGMENT_LENGTH;
@@ -18,7 +19,7 @@ ghost use mathlib.Core.Path.{_≡_};
 ghost use lib.Dec.{eqb, leb};
 ghost use Rattle.basis.specs.Choice.{pick};
 ghost use Rattle.device_decisions.specs.Decisions.{announceResult, sameFields, resumes, fragmentLength, repeatRefusal, fragmentRefusal};
-ghost use Rattle.device_decisions.specs.Decisions.{lastAfter, passes, trueLength, completion, executeResult};
+ghost use Rattle.device_decisions.specs.Decisions.{byIndex, lastAfter, passes, trueLength, completion, executeResult};
 
 // 20: what an announcement is answered with, tests in order.
 pub fn announce_result(
@@ -73,8 +74,8 @@ fn fragment_length(fields: Fields, index: u16, len: usize) -> bool
     }
 }
 
-// 21 of an index that is stored: 12 with the same bytes and length, 23 with others. The stored bytes
-// are as many as every fragment's, or as the last one's.
+// 21 of an index that is stored: the number 12 with the same bytes and length, the number 23 with
+// others. The stored bytes are as many as every fragment's, or as the last one's.
 fn repeat_refusal(fields: Fields, last: u16, index: u16, image: &[u8], content: &[u8]) -> u8
     ensures { λ r. ⌜ r ≡ repeatRefusal fields last index (now (image .entry)) (now (content .entry)) ⌝ }
 {
@@ -144,9 +145,9 @@ pub fn completion(stored: u16, last: u16, fields: Fields, image: &[u8]) -> u8
     }
 }
 
-// The first length for the last index, the second for any other.
+// One length for the last index, another for every other.
 fn by_index(fields: Fields, index: u16, last: u16, other: u16) -> u16
-    ensures { λ r. ⌜ r ≡ lastAfter fields index last other ⌝ }
+    ensures { λ r. ⌜ r ≡ byIndex fields index last other ⌝ }
 {
     if index as usize + 1 == fields.total as usize {
         last

@@ -77,7 +77,7 @@ module _ (b : HostedBefore) where
     pub offering : gatewayAt gatewayHostThen .phase ≡ offer
     pub held : HeldIsPackage recordsBefore
 
--- Demand 3, its halves joined, no call answered 23, and the length to be installed: of what the hosts keep.
+-- Demand 3, its halves joined, no call with the number 23, and the length to be installed: of what the hosts keep.
 abbrev pub HostedDemand3 : Type 0
 HostedDemand3 = (b : HostedBefore) → HostedReady b → Demand3Of (hosts (b .content)) (hostedStart b) (b .content)
 

@@ -1,4 +1,4 @@
--- The premises over hosts can be met too: the pasts of upgrade's witnesses, through the exports, also one that ends in 23. Assumes nothing.
+-- The premises over hosts can be met too: the pasts of upgrade's witnesses, through the exports, also one that ends in the number 23. Assumes nothing.
 use Prim.Native.Nat.{ℕ}
 use mathlib.Core.Path.{_≡_}
 use mathlib.Core.List.{List, [], _∷_, map}

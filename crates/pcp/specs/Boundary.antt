@@ -32,6 +32,7 @@ lengthIn answer = answer / 256
 abbrev pub Refused : ℕ → Type 0
 Refused answer = numberIn answer ≡ 0 → ⊥
 
+-- answered with a number that leaves all as it was
 abbrev pub LeftAlone : ℕ → Type 0
 LeftAlone answer = Refused answer × (numberIn answer ≡ repeatDiffers → ⊥)
 

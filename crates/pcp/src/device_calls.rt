@@ -23,7 +23,8 @@ pub extern "C" fn pcp_raw_device_new(bytes: &mut [u8], version: &[u8]) -> u8
     made.number
 }
 
-// A message is given. The answer is the number and 256 times the length of the reply.
+// A message is given. The answer is the number and 256 times the length of the reply. With the number
+// 23 the phase, byte 0 of the record, has become Failed.
 #[no_mangle]
 pub extern "C" fn pcp_raw_device_receive(
     bytes: &mut [u8],

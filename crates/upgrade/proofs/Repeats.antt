@@ -48,22 +48,22 @@ module _ (e : DeviceEnd) (index : ℕ) (again reply : List ℕ) (loads : e .devi
     brings good fits known roomy heard = rw (roomy, known, good, fits, heard) refl
 
 pub repeats-compared : RepeatsCompared
-repeats-compared b index again r =
+repeats-compared b index r =
     let e : DeviceEnd = deviceThen b in
     let f : Fields = e .device .fields in
     let l : Lived e (heldThen b) = lived (b .deviceCalls) (made b) _ (lived-fresh (b .running) (b .image) (b .map) _ (r .device-made)) in
     let p : Stored (Among (heldThen b .fragments)) f (e .image) (e .device .last) index =
-    l .sound .download (λ z. omega (arith, r .phase)) .holds .each index (r .below) (r .stored) in
+    l .sound .download (λ z. omega (arith, r .phase)) .holds .each index (r .below) (r .marks) in
     record {
       bytes = p .bytes;
       held = p .known;
-      number = λ supported pcp condition message reply known room heard.
+      number = λ again long supported pcp condition message reply known room heard.
           brings e index again reply (r .phase) supported pcp condition message
           (sound-record (standing (Among (heldThen b .fragments))) (e .device) (e .image) (e .map) (l .sound))
           (sound-room (standing (Among (heldThen b .fragments))) (e .device) (e .image) (e .map) (l .sound))
           known (le-leb deviceRoom (length reply) room) heard
           ∙ answered e index again reply (r .phase) (same again (p .bytes))
-          (repeated f (e .device .last) index (e .image) (e .map) again (r .below) (r .long) (r .stored)
+          (repeated f (e .device .last) index (e .image) (e .map) again (r .below) long (r .marks)
           ∙ repeat-is f (e .device .last) index (e .image) again (p .bytes)
           (stored-is (Among (heldThen b .fragments)) f (e .image) (e .device .last) index p));
     }

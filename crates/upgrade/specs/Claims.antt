@@ -1,4 +1,4 @@
--- What demand 3 claims of runs, whatever their ends keep: 01, "Runs of demand 3". Assumes nothing.
+-- What demand 3 claims of runs, whatever their ends keep: 01, "Runs of demand 3", and 02, 2026-06. Assumes nothing.
 use Prim.Native.Nat.{ℕ}
 use mathlib.Core.Path.{_≡_}
 use mathlib.Core.List.{List, [], _∷_, _++_}
@@ -65,7 +65,7 @@ module _ (e : Ends) where
     abbrev pub Always : (List (Call (e .Fact)) → Type 0) → Type 0
     Always Claim = (calls : List (Call (e .Fact))) → Allowed (next e) May start calls → Claim calls
 
-    -- no call that may be made is answered 23: what comes again is what was stored (02, 2026-06)
+    -- no call that may be made gives the number 23: what comes again is what was stored (02, 2026-06)
     abbrev pub RepeatsAgreeOf : Type 0
     RepeatsAgreeOf = Always (λ calls. (c : Call (e .Fact)) → May (reached calls) c → numberOf (reached calls) c ≡ repeatDiffers → ⊥)
 

@@ -1,4 +1,4 @@
--- Demand 3, as 01's "Runs of demand 3" words it. Assumes nothing.
+-- Demand 3, as 01's "Runs of demand 3" words it, and what stands beside it. Assumes nothing.
 use Prim.Native.Nat.{ℕ}
 use mathlib.Core.Path.{_≡_}
 use mathlib.Core.Bool.{Bool, true}
@@ -62,7 +62,7 @@ Demand3 = (b : Before) → Ready b → Demand3Of (records (b .content)) (start b
 abbrev pub Upgrade : Type 0
 Upgrade = (b : Before) → Ready b → UpgradeOf (records (b .content)) (start b) (b .content)
 
--- Beside it: no call after the start is answered 23.
+-- Beside it (02, 2026-06): no call after the start gives the number 23.
 abbrev pub RepeatsAgree : Type 0
 RepeatsAgree = (b : Before) → Ready b → RepeatsAgreeOf (records (b .content)) (start b)
 

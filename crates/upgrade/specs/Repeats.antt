@@ -1,5 +1,6 @@
--- What a repeat is answered (02, 2026-06), after any calls of a device that was made fresh: it is compared with the fragment that Held has for
--- its index. So where two builds differ in a fragment, and it comes from both, one after the other, that is seen. Assumes nothing.
+-- What a repeat is answered (02, 2026-06), after any calls of a device that was made fresh: in Loading it is compared with a fragment that Held
+-- has for its index, the same for every repeat. So a fragment of another build that comes while one is held, and is as long as it may be, is
+-- seen. Assumes nothing.
 use Prim.Native.Nat.{ℕ, _<_, _≤_}
 use mathlib.Core.Path.{_≡_}
 use mathlib.Core.Bool.{Bool, true}
@@ -18,22 +19,23 @@ use Rattle.upgrade.specs.Calls.{given}
 use Rattle.upgrade.specs.Records.{deviceDoes}
 use Rattle.upgrade.specs.Demand3.{Before, deviceThen, heldThen}
 
-module _ (b : Before) (index : ℕ) (again : List ℕ) where
-  -- the device is in Loading, and its map says that the index is stored; what comes again is as long as a fragment of that index may be
+module _ (b : Before) (index : ℕ) where
+  -- the device is in Loading, and its map says that the index is stored
   pub record Repeat : Type 0 where
     pub device-made : newOf (b .running) .number ≡ 0
     pub phase : deviceThen b .device .phase ≡ loading
     pub below : index < deviceThen b .device .fields .total
-    pub long : fragmentLength (deviceThen b .device .fields) index (length again) ≡ true
-    pub stored : marked (deviceThen b .map) index ≡ true
+    pub marks : marked (deviceThen b .map) index ≡ true
 
-  -- a fragment held decides the number of any call that brings the repeat: 12 with the same bytes, as many, 23 with others
+  -- a fragment held decides the number of any call that brings a repeat which is as long as it may be: 12 with the same bytes, as many, 23 with
+  -- others
   pub record Compared : Type 0 where
     pub bytes : List ℕ
     pub held : List·Memᴰ (index, bytes) (heldThen b .fragments)
-    pub number : (supported pcp : Bool) (condition : ℕ) (message reply : List ℕ) → conditionOk condition ≡ true → deviceRoom ≤ length reply
+    pub number : (again : List ℕ) → fragmentLength (deviceThen b .device .fields) index (length again) ≡ true
+        → (supported pcp : Bool) (condition : ℕ) (message reply : List ℕ) → conditionOk condition ≡ true → deviceRoom ≤ length reply
         → readOf toDevice supported pcp message ≡ found (fragment 0x00 index again)
         → deviceDoes (deviceThen b) (given supported pcp condition message reply) .number ≡ pick (same again bytes) alreadyStored repeatDiffers
 
 abbrev pub RepeatsCompared : Type 0
-RepeatsCompared = (b : Before) (index : ℕ) (again : List ℕ) → Repeat b index again → Compared b index again
+RepeatsCompared = (b : Before) (index : ℕ) → Repeat b index → Compared b index

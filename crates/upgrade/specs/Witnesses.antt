@@ -78,9 +78,9 @@ other = toldDevice (fragment 0x00 0 (replicate 32 0x43))
 abbrev pub crossed : Before
 crossed = past (toldDevice (announce offer) ∷ first ∷ other ∷ [])
 
--- the offer, and the first fragment, which then comes again
-abbrev pub begun : List (Call Bool)
-begun =
+-- the offer, and the first fragment
+abbrev pub opening : List (Call Bool)
+opening =
     atGateway askedGateway
     ∷ atDevice (toldDevice (announce offer))
     ∷ atGateway (toldGateway (announceReply 0x00))
@@ -125,8 +125,8 @@ pub record Witnesses : Type 0 where
   pub success : Success (records content) (reached (records content) (start half) calls)
   pub history : InstalledBefore (records content) (start half) calls
   -- a fragment may come again after the start, with number 12 (02, 2026-06)
-  pub repeat-allowed : Allowed (next (records content)) May (start fresh) (begun ++ (atDevice first ∷ []))
-  pub repeat-number : numberOf (records content) (reached (records content) (start fresh) begun) (atDevice first) ≡ alreadyStored
+  pub repeat-allowed : Allowed (next (records content)) May (start fresh) (opening ++ (atDevice first ∷ []))
+  pub repeat-number : numberOf (records content) (reached (records content) (start fresh) opening) (atDevice first) ≡ alreadyStored
   -- and a start may follow the number 23, in which the past of `crossed` ends
   pub crossed-number : deviceDoes (deviceThen half) other .number ≡ repeatDiffers
   pub crossed-failed : deviceThen crossed .device .phase ≡ failed
