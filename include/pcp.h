@@ -183,9 +183,9 @@
    that fails gives the number.  A refused call has changed nothing: record,
    image, map and reply are as they were, and the reply's length is 0.  The one
    exception is the number 23 (PCP_REPEAT_DIFFERS) of pcp_device_receive: it
-   makes the phase Failed, and changes nothing else.  On 0 the reply, if there is one,
-   fills the front of its buffer; the rest stays.  No bytes that arrive, from
-   wherever, lead to anything else.
+   makes the phase Failed, and changes nothing else.  On 0 the reply, if there
+   is one, fills the front of its buffer; the rest stays.  No bytes that arrive,
+   from wherever, lead to anything else.
 
    1 to 12 are part of normal work: what arrived is of no use and is dropped, or
    an end that was asked has nothing to send (PCP_NO_USE).  Of these, 1 and 2

@@ -222,10 +222,10 @@ static void device_install(struct device *device, unsigned long now)
 
 /* A repeat that differs changes the record too, to Failed, and is told when the
    device is asked.  The phase is looked at only when the number is 0: a record
-   that was refused may be none.  A device that is to go on after a restart would save, if the
-   record has changed, before it sends the reply; pcp.h has an example of that.
-   Only a changed record is a reason to ask at once: a host that asked after
-   every arrival would double all that follows a repeated message. */
+   that was refused may be none.  A device that is to go on after a restart would
+   save, if the record has changed, before it sends the reply; pcp.h has an
+   example of that.  Only a changed record is a reason to ask at once: a host that
+   asked after every arrival would double all that follows a repeated message. */
 static void device_receive(struct device *device, struct link *link,
                            unsigned long now, const struct message *message)
 {
