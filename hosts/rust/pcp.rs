@@ -107,11 +107,11 @@
 //!
 //! Any bytes may arrive: a call answers, or refuses and has changed nothing, or the phase alone
 //! ([`RepeatDiffers`](Refusal::RepeatDiffers), which does not occur under what follows). Let both ends use this
-//! library, and the hosts keep to these duties, so that nothing reaches either end but what the other sent after the gateway came to
-//! Offer, undamaged. Then, whatever is lost, repeated, delayed or reordered: when the device answers 23 with `00`, its
-//! image begins with the gateway's package; and when the gateway ends with [`Success`](Ending::Success), the device's
-//! installer had ended with [`Installed`](InstallCode::Installed) after that. Both are proved of the archive, for true
-//! pointers and lengths, which this crate sees to; of what it had stored before, see duty 11.
+//! library, and the hosts keep to these duties, so that nothing reaches either end but what the other sent after the
+//! gateway came to Offer, undamaged. Then, whatever is lost, repeated, delayed or reordered: when the device answers 23
+//! with `00`, its image begins with the gateway's package; and when the gateway ends with [`Success`](Ending::Success),
+//! the device's installer had ended with [`Installed`](InstallCode::Installed) after that. Both are proved of the
+//! archive, for true pointers and lengths, which this crate sees to; of what it had stored before, see duty 11.
 //!
 //! Not covered: damage that a check of 16 bits does not see (the package's code is the same check: put a hash of your
 //! own into the package); forgery (sign packages); power cuts inside a call; that every upgrade comes to an end.
@@ -462,10 +462,9 @@ bytes_named! {
     /// that the host stated; BadStart may be other traffic on the port; BadCheck is damage, and the message will come
     /// again; NoUse and AlreadyStored are late or repeated messages. On RepeatDiffers a fragment came that is stored
     /// with other bytes, so that two builds have met: save, and ask, so that the gateway is told by a 22 with `07`. The
-    /// others are faults of the host or its memory,
-    /// see [`is_hosts_fault`](Refusal::is_hosts_fault): on BadMemory it lends what it lent before, and if it cannot, or
-    /// on BadRecord, begins anew with [`Device::new`] or [`Gateway::start`]. UnknownCondition, BadInstallCode and
-    /// ShortRecord come from [`raw`] calls only.
+    /// others are faults of the host or its memory, see [`is_hosts_fault`](Refusal::is_hosts_fault): on BadMemory it
+    /// lends what it lent before, and if it cannot, or on BadRecord, begins anew with [`Device::new`] or
+    /// [`Gateway::start`]. UnknownCondition, BadInstallCode and ShortRecord come from [`raw`] calls only.
     #[non_exhaustive]
     Refusal {
         Unsupported = 1: "the device does not support software upgrade",
