@@ -1,3 +1,8 @@
 pub mod Xor
 pub mod Register
+pub mod Linear
+pub mod Folding
+pub mod Spreads
+pub mod Words
 pub mod Neighbours
+pub mod Unseen

@@ -21,6 +21,12 @@ getD-listed f zero i k h = absurd (not-suc-le-zero h)
 getD-listed f (suc n) i zero h = ap f (sym (add-zero i))
 getD-listed f (suc n) i (suc k) h = getD-listed f n (suc i) k (le-of-suc-le-suc h) ∙ ap f (suc-add i k ∙ sym (add-suc i k))
 
+-- two functions with one list of values are the same below its length
+pub same-listed : (g h : ℕ → ℕ) (n k : ℕ) → listed g 0 n ≡ listed h 0 n → k < n → g k ≡ h k
+same-listed g h n k e l =
+    let at : (f : ℕ → ℕ) → getD (listed f 0 n) k 0 ≡ f k = λ f. getD-listed f n 0 k l ∙ ap f (zero-add k) in
+    sym (at g) ∙ ap (λ (xs : List ℕ). getD xs k 0) e ∙ at h
+
 pub entry-at : (k : ℕ) → k < 256 → getD entries k 0 ≡ entryOf k
 unfolding entries
 entry-at k h = getD-listed entryOf 256 0 k h ∙ ap entryOf (zero-add k)
@@ -64,20 +70,26 @@ pub step-by-table : (table : List ℕ) (r b : ℕ) → table ≡ entries → bit
 unfolding step
 step-by-table table r b e = ap (bitXor (r / 256)) (rw e (entry-at (bitXor r b % 256) (omega arith)))
 
--- a turn of the loop: the register is in range, and the bytes that are left take it to the same end
-pub turn : (table bytes : List ℕ) (start r i : ℕ) → table ≡ entries → r < 65536 → i < length bytes → register r (drop i bytes) ≡ register start bytes
-    → let new : ℕ = bitXor (r / 256) (getD table (bitXor r (getD bytes i 0) % 256) 0) in
-    (i + 1 ≤ length bytes) × (new < 65536) × (register new (drop (i + 1) bytes) ≡ register start bytes)
-turn table bytes start r i e h k inv = (
-  omega arith,
-  rw (step-by-table table r (getD bytes i 0) e) (step-fits r (getD bytes i 0) h),
-  rw (step-by-table table r (getD bytes i 0) e, ← register-more bytes r i k) inv,
+-- a turn of a loop byte by byte: the register stays in range, and the bytes that are left take it to the same end
+pub single-turn : (bytes : List ℕ) (end r new i : ℕ) → r < 65536 → i < length bytes → new ≡ step r (getD bytes i 0) → register r (drop i bytes) ≡ end
+    → (new < 65536) × (register new (drop (i + 1) bytes) ≡ end)
+single-turn bytes end r new i h k e inv = (
+  rw e (step-fits r (getD bytes i 0) h),
+  rw (e, ← register-more bytes r i k) inv,
 )
 
+-- by the table
+pub turn : (table bytes : List ℕ) (end r i : ℕ) → table ≡ entries → r < 65536 → i < length bytes → register r (drop i bytes) ≡ end
+    → let new : ℕ = bitXor (r / 256) (getD table (bitXor r (getD bytes i 0) % 256) 0) in
+    (i + 1 ≤ length bytes) × (new < 65536) × (register new (drop (i + 1) bytes) ≡ end)
+turn table bytes end r i e h k inv =
+    let t : (_ < 65536) × (register _ (drop (i + 1) bytes) ≡ end) = single-turn bytes end r _ i h k (step-by-table table r (getD bytes i 0) e) inv in
+    (omega arith, t .0, t .1)
+
 -- the loop's end: no byte is left
-pub ended : (bytes : List ℕ) (start r i : ℕ) → length bytes ≤ i → register r (drop i bytes) ≡ register start bytes → r ≡ register start bytes
+pub ended : (bytes : List ℕ) (end r i : ℕ) → length bytes ≤ i → register r (drop i bytes) ≡ end → r ≡ end
 unfolding register
-ended bytes start r i h inv = ap (register r) (sym (drop-of-length-le bytes h)) ∙ inv
+ended bytes end r i h inv = ap (register r) (sym (drop-of-length-le bytes h)) ∙ inv
 
 -- what the table holds fits 16 bits
 pub table-fits : (table : List ℕ) (k : ℕ) → table ≡ entries → k < 256 → getD table k 0 < 65536
@@ -106,14 +118,12 @@ zeroed-parts (a ∷ b ∷ c ∷ d ∷ e ∷ h ∷ m) f g p q =
 -- the check of a message from the registers after its three parts, as the code lends them
 pub check-by-parts : (m : List ℕ) (f g before within r : ℕ) → f ≡ min (length m) 4 → g ≡ min (length m) 6
     → before ≡ register 0 (take (f - 0) m) → within ≡ register before (take (g - f - 0) (0 ∷ 0 ∷ []))
-    → r ≡ register within (take (length m - g) (drop g m)) → r % 65536 ≡ messageCheck m
+    → r ≡ register within (take (length m - g) (drop g m)) → r ≡ messageCheck m
 unfolding messageCheck checkOf
 check-by-parts m f g before within r p q e₁ e₂ e₃ =
-    let whole : r ≡ register 0 (zeroed m) =
     rw (
       zeroed-parts m f g p q,
       register-append (take f m) (take (g - f) (0 ∷ 0 ∷ []) ++ drop g m) 0,
       register-append (take (g - f) (0 ∷ 0 ∷ [])) (drop g m) (register 0 (take f m)),
     )
-    (rw (e₃, e₂, e₁, rest-is g m, sub-zero, sub-zero)) in
-    narrowed (zeroed m) 0 r (omega arith) whole
+    (rw (e₃, e₂, e₁, rest-is g m, sub-zero, sub-zero))

@@ -4,7 +4,7 @@ use native.Mathlib.Nat.{not-suc-le-zero, le-of-suc-le-suc}
 use native.Mathlib.Omega.{arith}
 use mathlib.Core.Path.{_≡_, refl, sym, _∙_, ap, ap₂}
 use lib.Arith.{bin-ind}
-use lib.Bits.{bitXor, differ, xor-step, xor-zero-l, xor-shr}
+use lib.Bits.{bitXor, differ, xor-step, xor-comm, xor-zero-l, xor-shr}
 
 -- of three binary digits
 bits-regroup : (x y z : ℕ) → x < 2 → y < 2 → z < 2 → differ (differ x y) z ≡ differ x (differ y z)
@@ -36,3 +36,8 @@ xor-assoc a b c =
     (ap (λ (x : ℕ). differ x (c % 2)) (xor-bit n b) ∙ bits-regroup (n % 2) (b % 2) (c % 2) (omega arith) (omega arith) (omega arith)
     ∙ ap (differ (n % 2)) (sym (xor-bit b c)))
     ∙ sym (xor-step n (bitXor b c))) a b c
+
+pub xor-exchange : (a b c d : ℕ) → bitXor (bitXor a b) (bitXor c d) ≡ bitXor (bitXor a c) (bitXor b d)
+xor-exchange a b c d =
+    xor-assoc a b (bitXor c d) ∙ ap (bitXor a) (sym (xor-assoc b c d) ∙ ap (λ (x : ℕ). bitXor x d) (xor-comm b c) ∙ xor-assoc c b d)
+    ∙ sym (xor-assoc a c (bitXor b d))

@@ -1,2 +1,4 @@
 pub mod Check
 pub mod Neighbours
+pub mod Unseen
+pub mod Inner

@@ -1,8 +1,15 @@
 // The PCP check (01, "The message and its check"): a 16-bit sum over bytes that shifts right over a
 // left-shifting table, as the published values have it.
+mod fold;
+mod quads;
+
 ghost use mathlib.Core.Path.{_≡_};
-ghost use Prim.Native.Nat.{_<_};
+ghost use Prim.Native.Nat.{_<_, _≤_};
+ghost use lib.ListN.{length};
 ghost use Rattle.checksum.specs.Check.{entries, register, checkOf, messageCheck};
+
+// From so many bytes on an input is folded.
+const LONG: usize = 40;
 
 // Entry i is i times 256, doubled eight times; for a seventeenth bit 1021 (hex) is xored in.
 const TABLE: [u16; 256] = [
@@ -264,15 +271,15 @@ const TABLE: [u16; 256] = [
     0x1EF0,
 ];
 
-// The table, laid out once for each check and lent from there on.
+// The table, laid out on the stack once for each long input and lent from there on.
 fn table() -> [u16; 256]
     ensures { λ r. ⌜ r ≡ entries ⌝ }
 {
     TABLE
 }
 
-// The register after the bytes. It is held wider than its 16 bits because that runs faster.
-fn run(table: &[u16; 256], start: u32, bytes: &[u8]) -> u32
+// The register after the bytes, byte by byte. It is held wider than its 16 bits because that runs faster.
+fn by_table(table: &[u16; 256], start: u32, bytes: &[u8]) -> u32
     requires { ⌜ now table ≡ entries ⌝ }
     requires { ⌜ start < 65536 ⌝ }
     ensures { λ r. ⌜ r ≡ register start (now (bytes .entry)) ⌝ }
@@ -288,25 +295,45 @@ fn run(table: &[u16; 256], start: u32, bytes: &[u8]) -> u32
     r
 }
 
+// The register after many bytes: what is left of them when they are folded, by the table.
+fn folded(start: u16, bytes: &[u8]) -> u16
+    requires { ⌜ 14 ≤ length (now bytes) ⌝ }
+    ensures { λ r. ⌜ r ≡ register start (now (bytes .entry)) ⌝ }
+{
+    let left = fold::fold(start, bytes);
+    let block = fold::block(left.low, left.high);
+    let at = left.at;
+    let table = table();
+    let r = by_table(&table, 0, &block);
+    (by_table(&table, r, &bytes[at..]) % 65536) as u16
+}
+
+// The register after the bytes; the way is chosen by their number alone.
+fn run(start: u16, bytes: &[u8]) -> u16
+    ensures { λ r. ⌜ r ≡ register start (now (bytes .entry)) ⌝ }
+{
+    if bytes.len() < LONG {
+        quads::run(start, bytes)
+    } else {
+        folded(start, bytes)
+    }
+}
+
 // The check of any bytes.
 pub fn check(bytes: &[u8]) -> u16
     ensures { λ r. ⌜ r ≡ checkOf (now (bytes .entry)) ⌝ }
 {
-    let table = table();
-    let r = run(&table, 0, bytes);
-    (r % 65536) as u16
+    run(0, bytes)
 }
 
 // The check of a message, its check field (bytes 4 and 5) taken as 0000.
 pub fn message_check(message: &[u8]) -> u16
     ensures { λ r. ⌜ r ≡ messageCheck (now (message .entry)) ⌝ }
 {
-    let table = table();
     let zeros = [0u8; 2];
     let field = basis::least(message.len(), 4);
     let rest = basis::least(message.len(), 6);
-    let before = run(&table, 0, &message[0..field]);
-    let within = run(&table, before, &zeros[0..rest - field]);
-    let r = run(&table, within, &message[rest..]);
-    (r % 65536) as u16
+    let before = run(0, &message[0..field]);
+    let within = run(before, &zeros[0..rest - field]);
+    run(within, &message[rest..])
 }

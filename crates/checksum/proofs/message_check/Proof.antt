@@ -1,13 +1,9 @@
--- `checksum::message_check` meets its contract: three runs, before, over and behind the check field, the middle one over 00: together the run over
--- the message with its field zeroed. Assumes nothing.
-use Rattle.checksum.proofs.Register.{register-fits, check-by-parts}
-use native.Mathlib.Omega.{arith}
+-- `checksum::message_check` meets its contract: three runs, before, over and behind the check field, the middle one over 00: together the run
+-- over the message with its field zeroed. Assumes nothing.
+use Rattle.checksum.proofs.Register.{check-by-parts}
 use borrow.Author.Needs.{needs}
 use Rattle.checksum.proofs.message_check.Statement.{statement}
 use Rattle.checksum.proofs.message_check.Tie as tie
-
-table-requires : tie.Need-table-requires
-table-requires c κs = search needs
 
 least-requires : tie.Need-least-requires
 least-requires c κs = search needs
@@ -40,10 +36,7 @@ part-run-end-2 : tie.Need-part-run-end-2
 part-run-end-2 c = search needs
 
 run-requires-2 : tie.Need-run-requires-2
-run-requires-2 c κs = (
-  c .before .before .before .before .before .before .before .before .table .ensures,
-  rw (c .before .before .before .run .ensures) (register-fits _ 0 (omega arith)),
-)
+run-requires-2 c κs = search needs
 
 sub-run-4 : tie.Need-sub-run-4
 sub-run-4 c = search needs
@@ -55,28 +48,18 @@ part-run-end-3 : tie.Need-part-run-end-3
 part-run-end-3 c = search needs
 
 run-requires-3 : tie.Need-run-requires-3
-run-requires-3 c κs = (
-  c .before .before .before .before .before .before .before .before .before .before .before .table .ensures,
-  rw (c .before .before .run2 .ensures) (register-fits _ _ (rw (c .before .before .before .before .before .before .run .ensures)
-      (register-fits _ 0 (omega arith)))),
-)
-
-cast-result : tie.Need-cast-result
-cast-result c = search needs
+run-requires-3 c κs = search needs
 
 returns : tie.Need-returns
-returns c =
-    check-by-parts (c .before .before .before .before .before .before .before .before .before .before .before .before .before .before .args .message
-    .now) _ _ _ _ _ (c .before .before .before .before .before .before .before .before .before .before .before .least .ensures)
-    (c .before .before .before .before .before .before .before .before .before .before .least2 .ensures)
-    (c .before .before .before .before .before .before .before .run .ensures)
-    (c .before .before .before .run2 .ensures) (c .run3 .ensures)
+returns c = check-by-parts (c .before .before .before .before .before .before .before .before .before .before .args .message .now) _ _ _ _ _
+    (c .before .before .before .before .before .before .before .before .least .ensures)
+    (c .before .before .before .before .before .before .before .least2 .ensures) (c .before .before .before .before .before .run .ensures)
+    (c .before .before .run2 .ensures) (c .run3 .ensures)
 
 pub message-check-spec : {M : Type 1} → statement M
 message-check-spec =
     tie.close
     (tie.spec
-    table-requires
     least-requires
     least-requires-2
     sub-run
@@ -92,5 +75,4 @@ message-check-spec =
     part-run-start-3
     part-run-end-3
     run-requires-3
-    cast-result
     returns)

@@ -1,4 +1,4 @@
--- `checksum::run` meets its contract: the loop steps byte by byte: the register so far, run over what is left, is the whole register. Assumes
+-- `checksum::by_table` meets its contract: the loop steps byte by byte: the register so far, run over what is left, is the whole register. Assumes
 -- nothing.
 use Prim.Native.Nat.{_%_}
 use lib.Bits.{bitXor}
@@ -10,8 +10,8 @@ use borrow.Author.Needs.{needs}
 use lib.ListN.{length, drop}
 use native.Mathlib.Omega.{arith}
 use Prim.Native.Nat.{_≤_, _<_, _-_}
-use Rattle.checksum.proofs.run.Statement.{statement}
-use Rattle.checksum.proofs.run.Tie as tie
+use Rattle.checksum.proofs.by_table.Statement.{statement}
+use Rattle.checksum.proofs.by_table.Tie as tie
 
 abbrev Inv-loop : tie.InvT-loop
 Inv-loop table start bytes r₀ i₀ r i = (i ≤ length bytes) × (r < 65536) × (register r (drop i bytes) ≡ register start bytes)
@@ -54,15 +54,15 @@ loop-less : tie.Need-loop-less Inv-loop μ-loop
 loop-less c = omega arith
 
 loop-again : tie.Need-loop-again Inv-loop μ-loop
-loop-again c = turn _ (c .before .before .before .before .args .bytes .now) (c .before .before .before .before .args .start) _ _
+loop-again c = turn _ (c .before .before .before .before .args .bytes .now) _ _ _
     (c .before .before .before .before .pre .0) (c .before .before .before .loop .inv .1) (c .before .before .loop-test .taken)
     (c .before .before .before .loop .inv .2)
 
 returns : tie.Need-returns Inv-loop μ-loop
 returns c = ended (c .before .before .args .bytes .now) _ _ _ (c .loop-test .left) (c .before .loop .inv .2)
 
-pub run-spec : {M : Type 1} → statement M
-run-spec =
+pub by-table-spec : {M : Type 1} → statement M
+by-table-spec =
     tie.close
     (tie.spec
     Inv-loop
