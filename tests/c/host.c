@@ -308,6 +308,23 @@ static void try_blind_spot(size_t length)
     }
 }
 
+/* Nor does it see two bytes exchanged that are 13 apart, with a byte behind
+   them. */
+static void try_far_blind_spot(size_t length)
+{
+    for (size_t at = 8; at + 14 < length; at++) {
+        uint8_t first = message[at];
+
+        message[at] = message[at + 13];
+        message[at + 13] = first;
+        expect("check of exchanged bytes", word(message + 4),
+               pcp_check_of_message(message, length), message, length);
+        compare(length, 0);
+        message[at + 13] = message[at];
+        message[at] = first;
+    }
+}
+
 /* Cut at every length, as it is and with its check made right again. */
 static void try_truncated(uint8_t code, size_t data)
 {
@@ -362,6 +379,7 @@ static void try_messages_of_code(uint8_t code)
         compare(length, 0);
         try_damaged_bytes(length);
         try_blind_spot(length);
+        try_far_blind_spot(length);
         try_truncated(code, data[i]);
         try_lengthened(code, data[i]);
         try_wrong_length_field(code, data[i]);

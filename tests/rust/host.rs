@@ -182,6 +182,58 @@ impl Run {
         }
     }
 
+    /// Every input of up to 100 bytes in which one bit is set: the check of any other is a sum of theirs. Short inputs and
+    /// long ones go different ways.
+    fn all_single_bits(&mut self) {
+        for length in 0..=100 {
+            for bit in 0..8 * length {
+                let mut input = vec![0; length];
+                input[bit / 8] = 1 << (bit % 8);
+                self.compare(1, 1, &input);
+            }
+        }
+    }
+
+    /// 02, 2026-11: what the check does not see at a distance of thirteen bytes or a multiple of it, while a byte follows.
+    fn unseen(&mut self) {
+        for _ in 0..3_000 {
+            let length = 21 + self.random.below(600);
+            let bytes = self.random.bytes(length);
+            let first = 6 + self.random.below(length - 20); // behind the check field, so that a message may be meant
+            let second = first + 13 * (1 + self.random.below((length - 2 - first) / 13));
+            let mut exchanged = bytes.clone();
+            exchanged.swap(first, second);
+            let mut xored = bytes.clone();
+            let value = self.random.not_zero();
+            xored[first] ^= value;
+            xored[second] ^= value;
+            let fill = [0x00, 0xFF][self.random.below(2)];
+            let longer = [&bytes[..first], &[fill; 13], &bytes[first..]].concat();
+            let [check, message_check] = [library::check(&bytes), library::message_check(&bytes)];
+            for changed in [exchanged, xored, longer] {
+                self.compare(1, 1, &changed);
+                self.same("check of what is unseen", library::check(&changed), check, &changed);
+                let changed_check = library::message_check(&changed);
+                self.same("message check of what is unseen", changed_check, message_check, &changed);
+            }
+        }
+    }
+
+    /// Nor two fragments of an image that change places, but for the last: of any size thirteen indexes apart, of a size that
+    /// is a multiple of thirteen any two.
+    fn unseen_fragments(&mut self) {
+        for (size, apart) in [(32, 13), (500, 13), (1_024, 26), (39, 1), (507, 4)] {
+            let image = self.random.bytes(40 * size + 1);
+            for index in 0..40 - apart {
+                let mut exchanged = image.clone();
+                let (before, behind) = exchanged.split_at_mut((index + apart) * size);
+                before[index * size..][..size].swap_with_slice(&mut behind[..size]);
+                self.compare(1, 1, &exchanged);
+                self.same("check of fragments exchanged", library::check(&exchanged), library::check(&image), &image);
+            }
+        }
+    }
+
     /// Every version byte, in a message and before further faults: the lower four bits must be 1, the others may be any.
     fn all_version_bytes(&mut self) {
         for code in 19..=24 {
@@ -315,6 +367,9 @@ fn main() -> ExitCode {
     let mut run = Run { model: Model::new(), random: Random(1), compared: 0, different: 0 };
     run.printed();
     run.all_short();
+    run.all_single_bits();
+    run.unseen();
+    run.unseen_fragments();
     run.all_version_bytes();
     run.all_faults();
     run.cut_short();
