@@ -5,18 +5,32 @@ use crate::measure::{compare, timed, Times};
 use crate::upgrade::offered;
 use pcp::{Code, DEVICE_REPLY, GATEWAY_REPLY};
 use plain::search::{by_bits, by_bytes, by_eights, Search};
+use std::hint::black_box;
 use std::time::Duration;
 
 const ROUNDS: usize = 301;
 
-pub fn check(input: &[u8], calls: usize, rounds: usize) -> Times {
+/// As many bytes has a round of checks, as far as one call has no more.
+const ROUND: usize = 32_000;
+
+/// What the check is compared with.
+pub const CHECKS: [(&str, fn(&[u8]) -> u16); 3] = [
+    ("by the table", plain::check::check),
+    ("folded too", plain::check::folded),
+    ("reading alone", plain::check::read),
+];
+
+/// The check, against one of these. A round is short, so that what else the machine does meets the rounds of a pair alike.
+pub fn check(input: &[u8], against: fn(&[u8]) -> u16) -> Times {
     assert_eq!(Library::check(input), Plain::check(input));
+    let calls = (ROUND / input.len()).max(1);
+    let rounds = if calls > 1 { 2_001 } else { 41 };
     let units = calls * input.len();
     compare(
         rounds,
         units,
-        || repeated(calls, || Library::check(input)),
-        || repeated(calls, || Plain::check(input)),
+        || repeated(calls, || Library::check(black_box(input))),
+        || repeated(calls, || against(black_box(input))),
     )
 }
 

@@ -1,5 +1,6 @@
-//! `bench PICTURE` measures the speed of the library against plain Rust, see docs/BENCHMARKS.md, and draws what an upgrade
-//! costs for each fragment. Before anything is timed, both have given the same results.
+//! `bench FOLDER` measures the speed of the library against plain Rust, see docs/BENCHMARKS.md, and draws what the check
+//! costs for each byte, and an upgrade for each fragment. Before anything is timed, both have given the same results.
+//! `bench FOLDER check` stops behind the check.
 
 mod calls;
 mod ends;
@@ -9,15 +10,18 @@ mod upgrade;
 
 use measure::Times;
 use pcp::{SIZE_MAX, SIZE_MIN, SIZE_PUBLIC};
-use plot::Line;
+use plot::{Chart, Line};
 use std::{env, fs};
 
 fn main() {
-    let picture = env::args().nth(1).expect("usage: bench PICTURE");
-    println!("{:<36} {:>12} {:>12} {:>7}", "", "library", "plain", "ratio");
-    println!("the check, ns for each byte");
-    for (length, calls, rounds) in [(16, 20_000, 301), (500, 1_000, 301), (8 << 20, 1, 21)] {
-        print_row(&format!("{length} bytes"), &calls::check(&bytes(length), calls, rounds));
+    let folder = env::args().nth(1).expect("usage: bench FOLDER [check]");
+    let draw = |picture: &str, chart: Chart| {
+        fs::write(format!("{folder}/{picture}.svg"), chart.drawn()).expect("the picture is written");
+    };
+    println!("{:<36} {:>12} {:>12} {:>7} {:>8}", "", "library", "plain", "ratio", "quartiles");
+    draw("check-by-length", checks());
+    if env::args().nth(2).as_deref() == Some("check") {
+        return;
     }
     for size in [SIZE_PUBLIC, SIZE_MAX] {
         println!("one fragment of {size} bytes, ns for each call");
@@ -36,7 +40,7 @@ fn main() {
         print_row(search, &times);
     }
     println!("a whole upgrade, ns for each fragment of {SIZE_PUBLIC} bytes");
-    let mut lines = [Line::new("library"), Line::new("plain Rust")];
+    let mut lines = vec![Line::new("library"), Line::new("plain Rust")];
     for (kib, rounds) in [(64, 101), (256, 61), (1 << 10, 41), (4 << 10, 25), (8 << 10, 21), (16 << 10, 15)] {
         for (ends, times) in upgrade::compared(SIZE_PUBLIC, &bytes(kib << 10), rounds) {
             print_row(&format!("{kib:>5} KiB, {ends}"), &times);
@@ -46,12 +50,65 @@ fn main() {
             }
         }
     }
-    fs::write(&picture, plot::cost_by_package(SIZE_PUBLIC, &lines)).expect("the picture is written");
+    draw(
+        "cost-per-fragment",
+        Chart {
+            title: format!("A whole upgrade, both ends: cost for each fragment of {SIZE_PUBLIC} bytes"),
+            along: "package",
+            unit: ("µs", 1e3),
+            named: |kib| named(kib << 10),
+            lines,
+        },
+    );
+}
+
+/// The check at lengths that tell, and then at all that are drawn.
+fn checks() -> Chart {
+    for (against, check) in calls::CHECKS {
+        println!("the check, ns for each byte, against plain Rust {against}");
+        for length in [16, 500, 8 << 20] {
+            print_row(&format!("{length} bytes"), &calls::check(&bytes(length), check));
+        }
+    }
+    let mut lines: Vec<Line> =
+        ["library", "by the table", "folded too", "reading alone"].map(Line::new).into();
+    for length in (3..=23).map(|power| 1 << power) {
+        for (at, (_, check)) in calls::CHECKS.into_iter().enumerate() {
+            let times = calls::check(&bytes(length), check);
+            lines[at + 1].points.push((length, times.plain));
+            if at == 0 {
+                lines[0].points.push((length, times.library));
+            }
+        }
+    }
+    let title = "The check, and plain Rust: cost for each byte".to_string();
+    Chart { title, along: "bytes", unit: ("ns", 1.0), named, lines }
 }
 
 fn print_row(name: &str, times: &Times) {
-    let digits = if times.ratio < 0.1 { 3 } else { 2 };
-    println!("  {name:<34} {:>12.2} {:>12.2} {:>7.digits$}", times.library, times.plain, times.ratio);
+    let (low, high) = times.quartiles;
+    println!(
+        "  {name:<34} {:>12} {:>12} {:>7} {:>6} {}",
+        figures(times.library),
+        figures(times.plain),
+        figures(times.ratio),
+        figures(low),
+        figures(high)
+    );
+}
+
+/// Two figures behind the point, three of what is small.
+fn figures(value: f64) -> String {
+    let places = if value < 0.1 { 3 } else { 2 };
+    format!("{value:.places$}")
+}
+
+fn named(bytes: usize) -> String {
+    match bytes {
+        0..=0x3FF => format!("{bytes}"),
+        0x400..=0xF_FFFF => format!("{} KiB", bytes >> 10),
+        _ => format!("{} MiB", bytes >> 20),
+    }
 }
 
 /// Bytes that do not repeat with the fragments.
