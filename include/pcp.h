@@ -31,7 +31,7 @@
    pcp_gateway_phase, pcp_gateway_ending.
 
    Building.  The library is one archive for x86-64 Linux, libpcp.a.  It needs
-   memcpy and memset from the C library, at most 1,300 bytes of stack, and no
+   memcpy and memset from the C library, at most 1,400 bytes of stack, and no
    heap:
 
        cc -std=c99 -Iinclude gateway.c -Ltarget/staticlib -lpcp -o gateway
@@ -248,13 +248,16 @@
    package's, undamaged.  This is proved.
 
    What cannot.  Damage on the way is found by the messages' 16-bit check: most
-   of it, not all (two neighbouring bytes xored with 0A and C3 always pass).
-   The package's code is the same check, so what the one does not see, the other
-   may not see either: put a hash of your own into the package.  A package
-   without a code (checked 0, or its check happens to be 0) is not tested by the
-   device, and never resumed.  Nothing here protects against forgery.  Nothing
-   is promised of time: the call that stores the last missing fragment runs over
-   the whole image.  Nor that an upgrade ends: losses are the hosts' matter.
+   of it, not all.  What always passes: two neighbouring bytes xored with 0A
+   and C3; with a byte behind them, two bytes whose places differ by a multiple
+   of 13, exchanged or xored with one value, and 13 bytes 00 or FF put in or
+   left out.  The package's code is the same check, so what the one does not
+   see, the other may not see either, and two builds may have the same code:
+   put a hash of your own into the package.  A package without a code (checked
+   0, or its check happens to be 0) is not tested by the device, and never
+   resumed.  Nothing here protects against forgery.  Nothing is promised of
+   time: the call that stores the last missing fragment runs over the whole
+   image.  Nor that an upgrade ends: losses are the hosts' matter.
 
 
    Saving, and coming back after a restart
