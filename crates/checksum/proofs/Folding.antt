@@ -10,7 +10,7 @@ use Rattle.checksum.specs.Check.{listed, step, register}
 use Rattle.checksum.specs.Inner.{closed, pushed}
 use Rattle.checksum.proofs.Xor.{xor-assoc}
 use Rattle.checksum.proofs.Register.{same-listed, register-append}
-use Rattle.checksum.proofs.Linear.{Linear, itself, behind, pushed-linear, entered, step-is, step-linear}
+use Rattle.checksum.proofs.Linear.{Linear, itself, behind, pushed-linear, entered, step-is, step-zero, step-linear}
 
 -- ---- steps for bytes 00
 
@@ -41,9 +41,6 @@ pushes-0 : (n : ℕ) → pushes n 0 ≡ 0
 unfolding pushes
 pushes-0 zero = refl
 pushes-0 (suc n) = ap (pushes n) pushed-0 ∙ pushes-0 n
-
-pub step-zero : (r : ℕ) → step r 0 ≡ pushed r
-step-zero r = step-is r 0 ∙ xor-zero-r (pushed r)
 
 pub register-zeros : (n r : ℕ) → register r (replicate n 0) ≡ pushes n r
 unfolding register pushes

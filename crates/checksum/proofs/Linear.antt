@@ -3,7 +3,7 @@ use Prim.Native.Nat.{ℕ, _*_, _/_, _%_, _^_, _<_}
 use native.Mathlib.Nat.{add-zero}
 use native.Mathlib.Omega.{arith}
 use mathlib.Core.Path.{_≡_, refl, sym, _∙_, ap, ap₂}
-use lib.Bits.{bitXor, xor-mod, xor-shr, xor-block}
+use lib.Bits.{bitXor, xor-mod, xor-shr, xor-block, xor-zero-r}
 use lib.Pow.{pow-pos}
 use Rattle.basis.specs.Choice.{pick}
 use Rattle.checksum.specs.Check.{doubled, entryOf, listed, step}
@@ -70,6 +70,9 @@ unfolding step pushed
 step-is r b =
     ap (bitXor (r / 256)) (entry-closed (bitXor r b % 256) (omega arith) ∙ entered-linear .sum r b)
     ∙ sym (xor-assoc (r / 256) (closed (r % 256)) (closed (b % 256)))
+
+pub step-zero : (r : ℕ) → step r 0 ≡ pushed r
+step-zero r = step-is r 0 ∙ xor-zero-r (pushed r)
 
 pub step-linear : (r s a b : ℕ) → step (bitXor r s) (bitXor a b) ≡ bitXor (step r a) (step s b)
 step-linear r s a b =

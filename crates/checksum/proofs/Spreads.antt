@@ -1,13 +1,13 @@
--- What a byte leaves in the register, looked up by its halves, and the register after four bytes made of it. Assumes nothing.
+-- What a byte leaves in the register, looked up by its nibbles, and the register after four bytes made of it. Assumes nothing.
 use Prim.Native.Nat.{ℕ, zero, suc, _+_, _*_, _/_, _%_, _<_, _≤_}
 use native.Mathlib.Omega.{arith}
 use mathlib.Core.Path.{_≡_, refl, sym, _∙_, ap, ap₂}
 use mathlib.Core.List.{List, [], _∷_}
-use lib.Bits.{bitXor, xor-comm, xor-lt, xor-mod, xor-shr, xor-block, xor-shifted, xor-zero-l, xor-zero-r}
+use lib.Bits.{bitXor, xor-comm, xor-lt, xor-mod, xor-shr, xor-block, xor-shifted, xor-zero-l}
 use Rattle.checksum.specs.Check.{step, register}
 use Rattle.checksum.specs.Inner.{mixed, closed, pushed, spreadOf}
 use Rattle.checksum.proofs.Xor.{xor-assoc}
-use Rattle.checksum.proofs.Linear.{Linear, behind, closed-linear, pushed-linear, entered, entered-linear, entry-closed, step-is, step-linear}
+use Rattle.checksum.proofs.Linear.{Linear, behind, closed-linear, pushed-linear, entered, entered-linear, entry-closed, step-is, step-zero, step-linear}
 
 -- ---- a match on a number: its last arm
 
@@ -23,11 +23,14 @@ rest-above (suc i) k r = let h : i ≤ k = rest-above i k (r .0) in omega (arith
 pub last-arm : (k : ℕ) → k < 16 → Rest 15 k → k ≡ 15
 last-arm k h r = omega (arith, rest-above 15 k r)
 
--- ---- the spread of a byte is that of its halves
+-- ---- the spread of a byte is that of its nibbles
+
+mixed-below : (i : ℕ) → i < 256 → mixed i < 256
+mixed-below i h = xor-lt 8 i (i / 16) h (omega arith)
 
 pub closed-fits : (i : ℕ) → i < 256 → closed i < 65536
 closed-fits i h =
-    let m : mixed i < 256 = xor-lt 8 i (i / 16) h (omega arith) in
+    let m : mixed i < 256 = mixed-below i h in
     xor-lt 16 (bitXor (mixed i * 4096 % 65536) (mixed i * 32)) (mixed i)
     (xor-lt 16 (mixed i * 4096 % 65536) (mixed i * 32) (omega arith) (omega arith)) (omega arith)
 
@@ -86,9 +89,7 @@ unfolding pushed
 step-first b = step-is 0 b
 
 pub mixed-fits : (r b : ℕ) → b < 256 → mixed (bitXor (r % 256) b) < 256
-mixed-fits r b h =
-    let i : bitXor (r % 256) b < 256 = xor-lt 8 (r % 256) b (omega arith) h in
-    xor-lt 8 (bitXor (r % 256) b) (bitXor (r % 256) b / 16) i (omega arith)
+mixed-fits r b h = mixed-below (bitXor (r % 256) b) (xor-lt 8 (r % 256) b (omega arith) h)
 
 -- the register counts as a change of the two bytes behind it
 two-steps : (r a b : ℕ) → r < 65536 → step (step r a) b ≡ step (step 0 (bitXor (r % 256) a)) (bitXor (r / 256) b)
@@ -101,7 +102,7 @@ two-steps r a b h =
     step-is r a ∙ ap (λ (z : ℕ). bitXor z (entered a)) (pushed-is r) ∙ xor-assoc (r / 256) (closed (r % 256)) (entered a)
     ∙ ap (bitXor (r / 256)) (sym (step-first (bitXor (r % 256) a) ∙ entered-linear .sum (r % 256) a ∙ ap (λ (z : ℕ). bitXor (closed z) (entered a)) lo)) in
     let moved : step (r / 256) 0 ≡ entered (r / 256) =
-    step-is (r / 256) 0 ∙ xor-zero-r (pushed (r / 256)) ∙ pushed-is (r / 256) ∙ ap (λ (z : ℕ). bitXor z (entered (r / 256))) none
+    step-zero (r / 256) ∙ pushed-is (r / 256) ∙ ap (λ (z : ℕ). bitXor z (entered (r / 256))) none
     ∙ xor-zero-l (entered (r / 256)) in
     ap (λ (z : ℕ). step z b) one ∙ ap (step (bitXor (r / 256) s)) (sym (xor-zero-l b)) ∙ step-linear (r / 256) s 0 b
     ∙ ap₂ bitXor moved (step-is s b) ∙ sym (xor-assoc (entered (r / 256)) (pushed s) (entered b))

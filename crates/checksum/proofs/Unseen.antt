@@ -15,8 +15,8 @@ use Rattle.checksum.specs.Inner.{pushed}
 use Rattle.checksum.specs.Unseen.{fragmentsExchanged, Blank, Unseen}
 use Rattle.checksum.proofs.Xor.{xor-exchange}
 use Rattle.checksum.proofs.Register.{register-append}
-use Rattle.checksum.proofs.Linear.{pushed-linear, entered, step-is}
-use Rattle.checksum.proofs.Folding.{pushes, step-zero, register-first, settled-check, pushed-periods, overlaid, pushed-both}
+use Rattle.checksum.proofs.Linear.{pushed-linear, entered, step-is, step-zero}
+use Rattle.checksum.proofs.Folding.{pushes, register-first, settled-check, pushed-periods, overlaid, pushed-both}
 use Rattle.checksum.proofs.Neighbours.{zeroed-set, zeroed-getD, length-zeroed}
 
 -- ---- two blocks of one length, at a distance of thirteens, and a byte behind them
