@@ -570,7 +570,8 @@ enum {
                                      or there are only 4 to 7 bytes: damaged; if
                                      often, are messages cut or joined? */
     PCP_BAD_LENGTH = 7,           /* the check is right, and the length field is
-                                     not the length less 8: a sender's fault */
+                                     not the length less 8: a sender's fault,
+                                     or damage that the check does not see */
     PCP_BAD_DATA = 8,             /* the data is not what this code carries
                                      toward this end; if often, are the ends
                                      exchanged? */
