@@ -1,12 +1,12 @@
 -- Laws of `pick`, of tests joined by `&&`, and of refusals in order. Assumes nothing.
-use Prim.Native.Nat.{ℕ, suc}
+use Prim.Native.Nat.{ℕ, suc, _≤_}
 use native.Mathlib.Omega.{arith}
 use mathlib.Core.Path.{_≡_, refl, sym, _∙_}
 use mathlib.Core.Bool.{Bool, true, false, not, _&&_, _||_, false≢true, true≢false}
 use mathlib.Core.Logic.{_⊎_, inl, inr}
 use mathlib.Core.List.{List, [], _∷_}
-use lib.Dec.{eqb}
-use borrow.Author.Tests.{eqb-true, eqb-false, eq-eqb, ne-eqb}
+use lib.Dec.{eqb, leb}
+use borrow.Author.Tests.{leb-true, leb-false, eqb-true, eqb-false, eq-eqb, ne-eqb}
 use Rattle.basis.specs.Choice.{pick, refusal, oneOf}
 
 module _ {ℓ} {A : Type ℓ} where
@@ -73,6 +73,16 @@ eqb-alike a b c d f g = go (eqb a b) refl
     go : (t : Bool) → eqb a b ≡ t → t ≡ eqb c d
     go true e = sym (eq-eqb c d (f (eqb-true a b e)))
     go false e = sym (ne-eqb c d (λ q. eqb-false a b e (g q)))
+
+-- two comparisons that hold together
+pub leb-alike : (a b c d : ℕ) → (a ≤ b → c ≤ d) → (c ≤ d → a ≤ b) → leb a b ≡ leb c d
+leb-alike a b c d f g = go (leb a b) refl (leb c d) refl
+  where
+    go : (t : Bool) → leb a b ≡ t → (u : Bool) → leb c d ≡ u → t ≡ u
+    go true e true h = refl
+    go true e false h = let l : c ≤ d = f (leb-true a b e) in absurd (omega (arith, leb-false c d h))
+    go false e true h = let l : a ≤ b = g (leb-true c d h) in absurd (omega (arith, leb-false a b e))
+    go false e false h = refl
 
 -- the first test passes, or gives its number
 pub passes : (n : ℕ) (t : Bool) (ts : List (ℕ × Bool)) → t ≡ true → refusal ((n, t) ∷ ts) ≡ refusal ts

@@ -1,5 +1,4 @@
--- The numbers that calls answer with (01, "Numbers returned"), under the names of the C header; captures' two have none there. Assumes
--- nothing.
+-- The numbers that calls answer with (01, "Numbers returned"), under the names of the C header. Assumes nothing.
 use Prim.Native.Nat.{ℕ}
 
 -- handled
@@ -89,6 +88,10 @@ badMark = 20
 -- a record of a capture cut short
 abbrev pub cutShort : ℕ
 cutShort = 21
+
+-- a record that does not fit this buffer, or whose message is too long for a length WORD (02, 2026-02)
+abbrev pub doesNotFit : ℕ
+doesNotFit = 22
 
 -- fragment already stored with other bytes, or with another length (02, 2026-06)
 abbrev pub repeatDiffers : ℕ

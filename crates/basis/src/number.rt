@@ -1,5 +1,4 @@
-// The numbers that calls answer with (01, "Numbers returned"), under the names of the C header;
-// captures' two have none there.
+// The numbers that calls answer with (01, "Numbers returned"), under the names of the C header.
 
 // Handled.
 pub const HANDLED: u8 = 0;
@@ -66,6 +65,9 @@ pub const BAD_MARK: u8 = 20;
 
 // A record of a capture cut short.
 pub const CUT_SHORT: u8 = 21;
+
+// A record that does not fit this buffer, or whose message is too long for a length WORD.
+pub const DOES_NOT_FIT: u8 = 22;
 
 // Fragment already stored with other bytes, or with another length.
 pub const REPEAT_DIFFERS: u8 = 23;

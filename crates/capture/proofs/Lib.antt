@@ -1,3 +1,8 @@
 pub mod Steps
 pub mod Records
 pub mod Walks
+pub mod Writes
+pub mod Mends
+pub mod MendedCaptures
+pub mod Written
+pub mod Cases

@@ -1,4 +1,5 @@
--- A record is read as it was written, and what is read as one stands in the capture byte for byte. Assumes nothing.
+-- A record is read as it was written, what is read as one stands in the capture byte for byte, and what is given where there is none: the claims
+-- of specs/Recorded. Assumes nothing.
 use Prim.Native.Nat.{ℕ, suc, _+_, _*_, _/_, _%_, _≤_, _<_}
 use native.Mathlib.Nat.{add-assoc, add-zero}
 use native.Mathlib.Omega.{arith}
@@ -8,11 +9,13 @@ use mathlib.Core.List.{List, [], _∷_, _++_}
 use lib.Dec.{eqb}
 use lib.ListN.{length, take, drop, getD, length-append, length-take, length-drop}
 use lib.Seq.{getD-append-add, drop-append-add, take-append-seam, take-add, drop-drop}
+use borrow.Author.Tests.{ne-eqb}
+use Rattle.basis.specs.Numbers.{cutShort}
 use Rattle.basis.specs.Bytes.{Bytes, wordAt, wordBytes, part}
 use Rattle.basis.proofs.Lists.{part-within}
 use Rattle.capture.specs.Capture.{Item, markOf, recordBytes, headerLength, wrongMark, left, itemAt, placeAfter, partOf}
-use Rattle.capture.specs.Recorded.{Recorded}
-use Rattle.capture.proofs.Steps.{Found, found, is-found}
+use Rattle.capture.specs.Recorded.{Recorded, NoRecord}
+use Rattle.capture.proofs.Steps.{ends, one-left, wrong-mark, cut-short, Found, found, is-found, is-end}
 
 right-mark : (toDevice : Bool) → wrongMark (markOf toDevice) ≡ false
 unfolding wrongMark
@@ -66,7 +69,7 @@ module _ (before : List ℕ) (toDevice : Bool) (message rest : List ℕ) where
 
 -- ---- what is read as a record stands there, byte for byte
 
-length-within : (capture : List ℕ) (start count : ℕ) → start + count ≤ length capture → length (partOf capture start count) ≡ count
+pub length-within : (capture : List ℕ) (start count : ℕ) → start + count ≤ length capture → length (partOf capture start count) ≡ count
 length-within capture start count h = simp (length-take, length-drop) (omega arith)
 
 -- the bytes before a message, and two WORDs whose bytes they are
@@ -111,4 +114,26 @@ recorded =
       read-message = read-message;
       read-next = read-next;
       stands = λ toDevice start count capture at. stands capture at;
+    }
+
+-- ---- where there is no record
+
+neither : (mark : ℕ) → (mark ≡ markOf true → ⊥) → (mark ≡ markOf false → ⊥) → wrongMark mark ≡ true
+unfolding wrongMark
+neither mark a b = rw (ne-eqb mark (markOf true) a, ne-eqb mark (markOf false) b) refl
+
+cut : (toDevice : Bool) (capture : List ℕ) (at : ℕ) → 2 ≤ left capture at → wordAt capture at ≡ markOf toDevice
+    → left capture at < headerLength + wordAt capture (at + 2) → itemAt capture at ≡ Item.fault cutShort
+cut toDevice capture at two mark short =
+    sym (cut-short capture at (omega arith) (λ one. omega arith) refl (ap wrongMark mark ∙ right-mark toDevice) refl short)
+
+pub no-record : NoRecord
+no-record =
+    record {
+      at-end = λ capture at none. sym (ends capture at none);
+      only-at-end = λ capture at e. is-end capture at (sym e);
+      one-left = λ capture at one. sym (one-left capture at (omega arith) one);
+      wrong = λ capture at two a b. sym (wrong-mark capture at (omega arith) (λ one. omega arith) refl (neither (wordAt capture at) a b));
+      no-header = λ toDevice capture at two mark short. cut toDevice capture at two mark (omega arith);
+      cut = cut;
     }

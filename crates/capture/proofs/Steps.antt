@@ -1,12 +1,14 @@
--- What stands at a place, from the tests in their order; and what is known of a record that is found. Assumes nothing.
+-- What stands at a place, from the tests in their order; and what is known of a record that is found, and of a number. Assumes nothing.
 use Prim.Native.Nat.{ℕ, _+_, _≤_, _<_}
 use native.Mathlib.Omega.{arith}
 use mathlib.Core.Path.{_≡_, refl, sym, _∙_, ap}
 use mathlib.Core.Bool.{Bool, true, false, _&&_, not}
 use mathlib.Core.List.{List}
+use mathlib.Core.Logic.{_⊎_, inl, inr}
 use lib.Dec.{eqb, ltb}
 use lib.ListN.{length}
-use borrow.Author.Tests.{le-leb, lt-leb, lt-ltb, le-ltb, eq-eqb, ne-eqb, ltb-false, eqb-true, not-false}
+use borrow.Author.Tests.{leb-true, le-leb, lt-leb, lt-ltb, le-ltb, eq-eqb, ne-eqb, ltb-false, eqb-true, not-false}
+use Rattle.basis.specs.Numbers.{badMark, cutShort}
 use Rattle.basis.proofs.Choosing.{pick-yes, pick-no, by-cases}
 use Rattle.capture.specs.Capture.{Item, Walk, markOf, headerLength, markAt, lengthAt, left, wrongMark, itemAt, placeAfter, walkAt}
 
@@ -85,3 +87,28 @@ module _ {toDevice : Bool} {start count : ℕ} where
     where
       P : Item → Type 0
       P item = item ≡ Item.found toDevice start count → Found capture at toDevice start count
+
+-- the end is given at the end, or past it
+pub is-end : (capture : List ℕ) (at : ℕ) → Item.end ≡ itemAt capture at → length capture ≤ at
+unfolding itemAt
+is-end capture at =
+    by-cases P (λ none _. leb-true _ _ none) (λ _. by-cases P (λ _. no) (λ _. by-cases P (λ _. no) (λ _. by-cases P (λ _. no) (λ _. not-found))))
+  where
+    P : Item → Type 0
+    P item = Item.end ≡ item → length capture ≤ at
+
+    no : {A : Type 0} {number : ℕ} → Item.end ≡ Item.fault number → A
+    no e = let z : _≡_ {A = ℕ} 0 1 = cc in absurd (omega arith)
+
+    not-found : {A : Type 0} {toDevice : Bool} {start count : ℕ} → Item.end ≡ Item.found toDevice start count → A
+    not-found e = let z : _≡_ {A = ℕ} 0 1 = cc in absurd (omega arith)
+
+-- where there is none, a number is 20 or 21
+pub fault-number : (capture : List ℕ) (at : ℕ) {number : ℕ} → Item.fault number ≡ itemAt capture at → (number ≡ badMark) ⊎ (number ≡ cutShort)
+unfolding itemAt
+fault-number capture at {number} =
+    by-cases P (λ _ e. let z : _≡_ {A = ℕ} 0 1 = cc in absurd (omega arith)) (λ _. by-cases P (λ _ e. inr cc) (λ _. by-cases P (λ _ e. inl cc) (λ _.
+    by-cases P (λ _ e. inr cc) (λ _ e. let z : _≡_ {A = ℕ} 0 1 = cc in absurd (omega arith)))))
+  where
+    P : Item → Type 0
+    P item = Item.fault number ≡ item → (number ≡ badMark) ⊎ (number ≡ cutShort)

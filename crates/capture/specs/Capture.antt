@@ -13,13 +13,18 @@ abbrev pub markOf : (toDevice : Bool) → ℕ
 markOf true = 0x4C3E
 markOf false = 0x4C3C
 
--- what a record is: the mark, then a length WORD and that many bytes
+-- what a record is: the mark, then a length WORD and that many bytes, the message. A WORD says at most 65,535, so that a record's message has no
+-- more bytes than that; of a longer list these are no record's bytes
 unfoldable pub recordBytes : (toDevice : Bool) (message : List ℕ) → List ℕ
 recordBytes toDevice message = wordBytes (markOf toDevice) ++ (wordBytes (length message) ++ message)
 
 -- the bytes of a record before its message
 abbrev pub headerLength : ℕ
 headerLength = 4
+
+-- the most bytes of a capture that the programs take
+abbrev pub captureMost : ℕ
+captureMost = 32768
 
 -- ---- reading
 

@@ -1,12 +1,19 @@
 // Captures (01, "Capture and replay"): records one after the other, each a two-byte mark, a length
-// WORD and that many bytes. A reader holds the borrowed capture and its place (01's walker). The work
-// is done by functions on a slice and a number; those over the reader only take it apart, and
-// `walk_from` serves callers that hold the place as a number.
+// WORD and that many bytes; read here, mended in `mend` and written in `write` (02, 2026-02). A reader
+// holds the borrowed capture and its place (01's walker). The work is done by functions on a slice and
+// a number; those over the reader only take it apart, and `walk_from` and `mend_from` serve callers
+// that hold the place as a number.
+mod mend;
+mod write;
+
 use basis::number::BAD_MARK;
 use basis::number::CUT_SHORT;
+use mend::mend_at;
+pub use write::write_record;
 ghost use mathlib.Core.Path.{_≡_};
 ghost use Rattle.capture.specs.Capture.{wrongMark, itemAt, walkAt};
-ghost use Rattle.capture.specs.Answers.{itemOf, told};
+ghost use Rattle.capture.specs.Mending.{mendAt};
+ghost use Rattle.capture.specs.Answers.{itemOf, told, mendTold};
 ghost use Rattle.capture.specs.Reader.{readerAt};
 
 // The mark of a record toward the device, its two bytes as a WORD.
@@ -17,6 +24,19 @@ const FROM_DEVICE: u16 = 0x4C3C;
 
 // The bytes of a record before its message: mark and length.
 const HEADER_LENGTH: usize = 4;
+
+// The most bytes of a record's message: their number is a WORD.
+pub const MESSAGE_MOST: usize = 65535;
+
+// The most bytes of a capture that the programs take.
+pub const CAPTURE_MOST: usize = 32768;
+
+// What a writer answers: 0 and the place behind the record, or the number why there is none and the
+// place itself.
+pub struct Wrote {
+    pub number: u8,
+    pub at: usize,
+}
 
 // What stands at a place of a capture.
 pub enum Step {
@@ -31,6 +51,29 @@ pub enum Step {
     End,
     // No record: BAD_MARK or CUT_SHORT.
     Fault(u8),
+}
+
+// What mending finds at a place of a capture.
+pub enum Part {
+    // A whole record, as a step has it.
+    Record {
+        to_device: bool,
+        start: usize,
+        length: usize,
+    },
+    // Bytes that are passed over.
+    Passed {
+        start: usize,
+        length: usize,
+    },
+    // Nothing is left.
+    Finish,
+}
+
+// A mending reader's step: what it finds at its place, and its place after that.
+pub struct Mended {
+    pub part: Part,
+    pub at: usize,
 }
 
 // A reader's step: what stands at its place, and its place after that.
@@ -124,6 +167,13 @@ impl<'a> CaptureReader<'a> {
     {
         walk_at(self.capture, self.at)
     }
+
+    // What mending finds at its place, and its place after that.
+    pub fn mended(self) -> Mended
+        ensures { λ r. ⌜ mendTold r ≡ mendAt (now (self .entry .capture)) (self .entry .at) ⌝ }
+    {
+        mend_at(self.capture, self.at)
+    }
 }
 
 // A reader's step at a place of the capture.
@@ -131,4 +181,11 @@ pub fn walk_from(capture: &[u8], at: usize) -> Walked
     ensures { λ r. ⌜ told r ≡ walkAt (now (capture .entry)) at ⌝ }
 {
     CaptureReader::new(capture).moved(at).next()
+}
+
+// A mending reader's step at a place of the capture.
+pub fn mend_from(capture: &[u8], at: usize) -> Mended
+    ensures { λ r. ⌜ mendTold r ≡ mendAt (now (capture .entry)) at ⌝ }
+{
+    CaptureReader::new(capture).moved(at).mended()
 }
