@@ -1,40 +1,17 @@
--- The numbers by which the definitions recurse cut nothing off: a number below 100,000 is printed whole, and more turns than the bytes
--- of a capture print nothing more. Assumes nothing.
-use Prim.Native.Nat.{ℕ, zero, suc, _+_, _-_, _*_, _/_, _%_, _^_, _≤_, _<_}
+-- The number by which `textFrom` recurses cuts nothing off: more turns than the bytes of a capture print nothing more. Assumes nothing.
+use Prim.Native.Nat.{ℕ, zero, suc, _+_, _≤_, _<_}
 use native.Mathlib.Nat.{suc-add}
 use native.Mathlib.Omega.{arith}
-use mathlib.Core.Path.{_≡_, refl, _∙_, ap}
+use mathlib.Core.Path.{_≡_, refl, ap}
 use mathlib.Core.Bool.{Bool, true, false}
-use mathlib.Core.List.{List, [], _∷_, _++_}
+use mathlib.Core.List.{List, [], _++_}
 use lib.ListN.{length}
 use Rattle.basis.specs.Choice.{pick}
-use Rattle.basis.proofs.Choosing.{by-cases}
 use Rattle.device.specs.Rules.{After}
 use Rattle.capture.specs.Capture.{itemAt, placeAfter}
 use Rattle.capture.proofs.Steps.{ends}
-use Rattle.transcript.specs.Text.{figures, decimal}
 use Rattle.transcript.specs.Transcript.{after, printed, goesOn, textFrom}
 use Rattle.transcript.proofs.Runs.{Past, past-record}
-
--- the number that figures say, behind those that were read before
-pub valueFrom : ℕ → List ℕ → ℕ
-valueFrom n [] = n
-valueFrom n (f ∷ fs) = valueFrom (n * 10 + (f - 0x30)) fs
-
-value-last : (n : ℕ) (fs : List ℕ) (d : ℕ) → valueFrom n (fs ++ ((0x30 + d) ∷ [])) ≡ valueFrom n fs * 10 + d
-unfolding valueFrom
-value-last n [] d = omega arith
-value-last n (f ∷ fs) d = value-last (n * 10 + (f - 0x30)) fs d
-
-value-figures : (most n : ℕ) → n < 10 ^ most → valueFrom 0 (figures most n) ≡ n
-unfolding figures valueFrom
-value-figures zero n h = omega arith
-value-figures (suc most) n h =
-    by-cases (λ (l : List ℕ). valueFrom 0 l ≡ n) (λ _. omega arith)
-    (λ _. value-last 0 (figures most (n / 10)) (n % 10) ∙ ap (λ (k : ℕ). k * 10 + n % 10) (value-figures most (n / 10) (omega arith)) ∙ omega arith)
-
-pub decimal-says : (n : ℕ) → n < 100000 → valueFrom 0 (decimal n) ≡ n
-decimal-says n h = value-figures 5 n (omega arith)
 
 -- nothing is printed at the end, however many turns are left
 at-end : (capture : List ℕ) (most number at : ℕ) (s : After) → length capture ≤ at → textFrom capture most number at s ≡ []

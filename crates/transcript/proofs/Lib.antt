@@ -1,4 +1,3 @@
-pub mod Emitting
 pub mod Figures
 pub mod Lines
 pub mod Turns

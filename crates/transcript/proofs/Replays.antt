@@ -11,9 +11,13 @@ use borrow.Author.Tests.{lt-ltb, le-ltb}
 use Rattle.basis.specs.Bytes.{over}
 use Rattle.basis.proofs.Lists.{patched-front}
 use Rattle.basis.proofs.Choosing.{pick-yes, pick-no, by-cases}
-use Rattle.transcript.specs.Text.{newline, numberText}
-use Rattle.transcript.specs.Transcript.{captureMost, version, at-first, start, textFrom, replayText, outRoom, Replayed, replayOf}
-use Rattle.transcript.specs.Answers.{Emitted, played}
+use Rattle.capture.specs.Capture.{captureMost}
+use Rattle.text.specs.Text.{newline, numberText, textAt}
+use Rattle.text.specs.Answers.{written, Emitted}
+use Rattle.text.proofs.Emitting.{emitted}
+use Rattle.transcript.specs.Transcript.{version, at-first, start, textFrom, replayText, outRoom, Replayed, replayOf}
+use Rattle.transcript.specs.Answers.{played}
+use Rattle.transcript.proofs.Figures.{length-fault}
 
 module _ (capture out : List ℕ) where
   pub too-short : length out < outRoom → played 0 out ≡ replayOf capture out
@@ -27,9 +31,10 @@ module _ (capture out : List ℕ) where
         ap₂ played (t .place ∙ zero-add (length text) ∙ ap length e) (t .bytes ∙ patched-front text out ∙ ap (λ (l : List ℕ). over l out) e)
         ∙ sym (pick-no _ _ _ (le-ltb _ _ fits))
 
-    pub too-long : captureMost < length capture → {now : List ℕ} {r : ℕ} → Emitted (numberText 21 newline) out 0 now r → played r now ≡ replayOf capture out
+    pub too-long : captureMost < length capture → {now : List ℕ} {r : ℕ} → written r now ≡ textAt (numberText 21 newline) out 0
+        → played r now ≡ replayOf capture out
     unfolding replayText
-    too-long h = text-written (sym (pick-yes _ _ _ (lt-ltb _ _ h)))
+    too-long h w = text-written (sym (pick-yes _ _ _ (lt-ltb _ _ h))) (emitted (numberText 21 newline) out 0 (omega (arith, length-fault 21)) w)
 
     pub replays : length capture ≤ captureMost → {made : Made} → made ≡ newOf version → {now : List ℕ} {r : ℕ}
         → Emitted (textFrom capture (suc (length capture)) 0 0 (at-first (made .device))) out 0 now r → played r now ≡ replayOf capture out

@@ -12,12 +12,13 @@ use Rattle.basis.proofs.Choosing.{pick-yes, pick-no}
 use Rattle.device.specs.declared.Answer.{Answer}
 use Rattle.device.specs.Rules.{After}
 use Rattle.device.specs.Answers.{afterCall}
-use Rattle.capture.specs.Capture.{Item, itemAt, placeAfter, headerLength}
+use Rattle.capture.specs.Capture.{captureMost, Item, itemAt, placeAfter, headerLength}
 use Rattle.capture.proofs.Steps.{Found, is-found}
 use Rattle.transcript.specs.declared.Turn.{Turn}
-use Rattle.transcript.specs.Transcript.{captureMost, replyLength, after, printed, goesOn, textFrom, lineMost, outRoom}
-use Rattle.transcript.specs.Answers.{Emitted, Turned}
-use Rattle.transcript.proofs.Emitting.{Remaining, whole, complete, onward}
+use Rattle.transcript.specs.Transcript.{replyLength, after, printed, goesOn, textFrom, lineMost, outRoom}
+use Rattle.transcript.specs.Answers.{Turned}
+use Rattle.text.specs.Answers.{Emitted}
+use Rattle.text.proofs.Emitting.{Remaining, whole, complete, onward}
 use Rattle.transcript.proofs.Figures.{length-line, length-fault}
 
 -- what is printed in a turn fits in a line

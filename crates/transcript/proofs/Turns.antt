@@ -1,10 +1,9 @@
 -- One turn of replay: what a call of the device and each kind of step leave. Assumes nothing.
 use Prim.Native.Nat.{ℕ, _+_, _-_, _≤_, min}
-use native.Mathlib.Nat.{add-zero}
 use native.Mathlib.Omega.{arith}
 use mathlib.Core.Path.{_≡_, refl, sym, _∙_, ap, subst}
 use mathlib.Core.Bool.{Bool, true, false}
-use mathlib.Core.List.{List, []}
+use mathlib.Core.List.{List}
 use lib.ListN.{length, take, length-take}
 use Rattle.device.specs.declared.Answer.{Answer}
 use Rattle.basis.proofs.Lists.{take-min}
@@ -16,11 +15,13 @@ use Rattle.capture.specs.declared.Walked.{Walked}
 use Rattle.capture.specs.Capture.{Item, itemAt, placeAfter, Walk, walkAt, partOf}
 use Rattle.capture.specs.Answers.{itemOf, told}
 use Rattle.transcript.specs.declared.Turn.{Turn}
-use Rattle.transcript.specs.Text.{newline, numberText, lineText}
+use Rattle.text.specs.Text.{newline, numberText, textAt}
+use Rattle.text.specs.Answers.{written, Emitted}
+use Rattle.text.proofs.Emitting.{emitted, nothing}
+use Rattle.transcript.specs.Line.{lineText}
 use Rattle.transcript.specs.Transcript.{replyLength, given, line, after, printed, goesOn, lineMost}
-use Rattle.transcript.specs.Answers.{Emitted, Given, Turned}
-use Rattle.transcript.proofs.Emitting.{patched-none}
-use Rattle.transcript.proofs.Figures.{length-line}
+use Rattle.transcript.specs.Answers.{Given, Turned}
+use Rattle.transcript.proofs.Figures.{length-line, length-fault}
 
 -- the reply as the code lends it
 shown-is : (n shown : ℕ) (reply : List ℕ) → shown ≡ min n (length reply) → take (shown - 0) reply ≡ take n reply
@@ -47,9 +48,6 @@ was-given message number at answer image map reply out end next image′ map′ 
       place = refl;
       more = refl;
     }
-
-nothing : (out : List ℕ) (end : ℕ) → Emitted [] out end out end
-nothing out end = record { bytes = sym (patched-none end out); place = sym (add-zero end) }
 
 -- a turn over what a reader found at a place
 module _ (capture : List ℕ) (number at : ℕ) (answer : Answer) (image map reply out : List ℕ) (end : ℕ) (w : Walked) (walked : told w ≡ walkAt capture at) where
@@ -95,6 +93,8 @@ module _ (capture : List ℕ) (number at : ℕ) (answer : Answer) (image map rep
   at-end {r} e q = at-place (λ (i : Item). Leaves i r image map reply out) e (stops-at Item.end q refl refl (nothing out end))
 
   pub at-fault : {r : Turn} {fault behind : ℕ} {out′ : List ℕ} → w .step ≡ Fault fault → r ≡ record { more = false; at = w .at; end = behind; answer = answer }
-      → Emitted (numberText fault newline) out end out′ behind → Leaves (itemAt capture at) r image map reply out′
+      → end + lineMost ≤ length out → written behind out′ ≡ textAt (numberText fault newline) out end → Leaves (itemAt capture at) r image map reply out′
   unfolding after printed goesOn
-  at-fault {r} {fault} {behind} {out′} e q t = at-place (λ (i : Item). Leaves i r image map reply out′) e (stops-at (Item.fault fault) q refl refl t)
+  at-fault {r} {fault} {behind} {out′} e q h w =
+      at-place (λ (i : Item). Leaves i r image map reply out′) e
+      (stops-at (Item.fault fault) q refl refl (emitted (numberText fault newline) out end (omega (arith, length-fault fault)) w))

@@ -1,20 +1,14 @@
 -- What the code's answers mean. Assumes nothing.
-use Prim.Native.Nat.{ℕ, _+_}
+use Prim.Native.Nat.{ℕ}
 use mathlib.Core.Path.{_≡_}
 use mathlib.Core.Bool.{true}
 use mathlib.Core.List.{List}
-use lib.ListN.{length}
-use Rattle.basis.specs.Bytes.{patched}
 use Rattle.device.specs.Rules.{After}
 use Rattle.device.specs.Answers.{afterCall}
 use Rattle.capture.specs.Capture.{Item, placeAfter}
+use Rattle.text.specs.Answers.{Emitted}
 use Rattle.transcript.specs.declared.Turn.{Turn}
 use Rattle.transcript.specs.Transcript.{given, line, after, printed, goesOn, Replayed}
-
--- text written into a buffer from a place on: the buffer after it, and the place behind it
-pub record Emitted (text before : List ℕ) (at : ℕ) (now : List ℕ) (behind : ℕ) : Type 0 where
-  pub bytes : now ≡ patched at text before
-  pub place : behind ≡ at + length text
 
 -- what a record toward the device leaves: the device that was given its message, and its line
 pub record Given (message : List ℕ) (number at : ℕ) (s : After) (before : List ℕ) (end : ℕ) (r : Turn) (image map reply now : List ℕ)

@@ -10,12 +10,9 @@ use Rattle.basis.specs.Bytes.{over}
 use Rattle.device_record.specs.declared.Device.{Device}
 use Rattle.device_record.specs.Record.{newOf}
 use Rattle.device.specs.Rules.{After, receiveOf}
-use Rattle.capture.specs.Capture.{Item, headerLength, itemAt, placeAfter, partOf}
-use Rattle.transcript.specs.Text.{newline, numberText, lineText}
-
--- at most 32,768 bytes of input
-abbrev pub captureMost : ℕ
-captureMost = 32768
+use Rattle.capture.specs.Capture.{captureMost, Item, headerLength, itemAt, placeAfter, partOf}
+use Rattle.text.specs.Text.{newline, numberText}
+use Rattle.transcript.specs.Line.{lineText}
 
 -- a 16,384-byte image, a 64-byte map, a 26-byte reply buffer
 abbrev pub imageLength : ℕ

@@ -1,8 +1,9 @@
 // What replay prints for a capture (01, "Capture and replay"): a line for each record toward the
 // device, made by a device that is given the records' messages one after the other.
-mod text;
+mod line;
 
 use basis::number::CUT_SHORT;
+use capture::CAPTURE_MOST;
 use capture::Step;
 use device::Answer;
 use device::Device;
@@ -11,12 +12,10 @@ ghost use mathlib.Core.Bool.{false};
 ghost use Prim.Native.Nat.{suc, _+_, _≤_};
 ghost use lib.ListN.{length};
 ghost use Rattle.device.specs.Answers.{afterCall};
-ghost use Rattle.capture.specs.Capture.{itemAt};
-ghost use Rattle.transcript.specs.Transcript.{captureMost, replyLength, textFrom, lineMost, outRoom, replayOf};
-ghost use Rattle.transcript.specs.Answers.{Emitted, Given, Turned, played};
-
-// The most bytes of a capture; a longer one prints only 21.
-pub const CAPTURE_MOST: usize = 32768;
+ghost use Rattle.capture.specs.Capture.{captureMost, itemAt};
+ghost use Rattle.text.specs.Answers.{Emitted};
+ghost use Rattle.transcript.specs.Transcript.{replyLength, textFrom, lineMost, outRoom, replayOf};
+ghost use Rattle.transcript.specs.Answers.{Given, Turned, played};
 
 // The device's buffers, and the version that it runs: V0.9.
 const IMAGE_LENGTH: usize = 16384;
@@ -80,7 +79,7 @@ fn give(
     let next = device::receive(device, true, true, READY, message, image, map, reply);
     let shown = basis::least(next.length, reply.len());
     let left = next.device;
-    let behind = text::put_line(out, end, number, next.number, left.phase, &reply[0..shown]);
+    let behind = line::put_line(out, end, number, next.number, left.phase, &reply[0..shown]);
     Turn {
         more: true,
         at,

@@ -1,7 +1,5 @@
 -- `transcript::carry_out` meets its contract: each arm is one kind of step. Assumes nothing.
 use borrow.Author.Needs.{needs}
-use native.Mathlib.Omega.{arith}
-use Rattle.transcript.proofs.Figures.{length-fault}
 use Rattle.transcript.proofs.Turns.{to-device, from-device, at-end, at-fault}
 use Rattle.transcript.proofs.carry_out.Statement.{statement}
 use Rattle.transcript.proofs.carry_out.Tie as tie
@@ -31,12 +29,7 @@ cast-put-number : tie.Need-cast-put-number
 cast-put-number c = search needs
 
 put-number-requires : tie.Need-put-number-requires
-put-number-requires c κs =
-    omega (
-      arith,
-      length-fault (c .before .before .step2 .given .0 .0),
-      c .before .before .before .before .before .before .before .before .before .before .pre .1,
-    )
+put-number-requires c κs = tt
 
 stopped-requires-2 : tie.Need-stopped-requires-2
 stopped-requires-2 c κs = tt
@@ -91,7 +84,9 @@ returns-4 c =
     (c .before .before .before .before .before .before .before .before .before .before .before .before .before .before .args .answer) _ _ _ _ _
     (c .before .before .before .before .before .before .before .before .walk-from .result)
     (c .before .before .before .before .before .before .before .before .walk-from .ensures)
-    (c .before .before .before .before .before .before .step2 .given .1) (c .stopped2 .ensures) (c .before .before .before .put-number .ensures)
+    (c .before .before .before .before .before .before .step2 .given .1) (c .stopped2 .ensures)
+    (c .before .before .before .before .before .before .before .before .before .before .before .before .before .before .pre .1)
+    (c .before .before .before .put-number .ensures)
 
 pub carry-out-spec : {M : Type 1} → statement M
 carry-out-spec =

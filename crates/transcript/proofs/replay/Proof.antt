@@ -1,7 +1,5 @@
 -- `transcript::replay` meets its contract: a buffer that is too short, a capture that is too long, and the text of all others. Assumes nothing.
 use borrow.Author.Needs.{needs}
-use native.Mathlib.Omega.{arith}
-use Rattle.transcript.proofs.Figures.{length-fault}
 use Rattle.transcript.proofs.Replays.{too-short, too-long, replays}
 use Rattle.transcript.proofs.replay.Statement.{statement}
 use Rattle.transcript.proofs.replay.Tie as tie
@@ -13,7 +11,7 @@ cast-put-number : tie.Need-cast-put-number
 cast-put-number c = search needs
 
 put-number-requires : tie.Need-put-number-requires
-put-number-requires c κs = omega (arith, length-fault 21, c .before .before .if1 .left)
+put-number-requires c κs = tt
 
 same-length : tie.Need-same-length
 same-length c = search needs

@@ -1,57 +1,12 @@
-// Text into a buffer, from a place on; each function answers the place behind what it wrote.
+// A line of replay, into a buffer from a place on; each function answers the place behind what it wrote.
+use text::put_number;
+use text::put_text;
 ghost use mathlib.Core.Path.{_≡_};
 ghost use mathlib.Core.List.{[], _∷_};
-ghost use Prim.Native.Nat.{_+_, _-_, _%_, _/_, _≤_, _<_};
+ghost use Prim.Native.Nat.{_+_, _%_, _/_, _≤_, _<_};
 ghost use lib.ListN.{length};
-ghost use Rattle.transcript.specs.Text.{decimal, numberText, hexFigure, hex, replyText, lineText};
-ghost use Rattle.transcript.specs.Answers.{Emitted};
-
-pub(crate) fn put_text(out: &mut [u8], at: usize, text: &[u8]) -> usize
-    requires { ⌜ at + length (now text) ≤ length (now out) ⌝ }
-    ensures { λ r. ⌜ Emitted (now (text .entry)) (now (out .entry)) at (now (out .exit)) r ⌝ }
-{
-    basis::put(out, at, text);
-    at + text.len()
-}
-
-// The last figure of a number.
-fn figure(n: usize) -> u8
-    ensures { λ r. ⌜ r ≡ 48 + n % 10 ⌝ }
-{
-    b'0' + (n % 10) as u8
-}
-
-// How many of a number's five figures are zeros before it.
-fn zeros(n: usize) -> usize
-    ensures { λ r. ⌜ r ≡ 5 - length (decimal n) ⌝ }
-{
-    if n < 10 {
-        return 4;
-    }
-    if n < 100 {
-        return 3;
-    }
-    if n < 1000 {
-        return 2;
-    }
-    if n < 10000 { 1 } else { 0 }
-}
-
-// A number in decimal, and a character behind it.
-pub(crate) fn put_number(out: &mut [u8], at: usize, n: usize, end: u8) -> usize
-    requires { ⌜ at + length (numberText n end) ≤ length (now out) ⌝ }
-    ensures { λ r. ⌜ Emitted (numberText n end) (now (out .entry)) at (now (out .exit)) r ⌝ }
-{
-    let text = [
-        figure(n / 10000),
-        figure(n / 1000),
-        figure(n / 100),
-        figure(n / 10),
-        figure(n),
-        end,
-    ];
-    put_text(out, at, &text[zeros(n)..6])
-}
+ghost use Rattle.text.specs.Answers.{Emitted};
+ghost use Rattle.transcript.specs.Line.{hexFigure, hex, replyText, lineText};
 
 // Upper-case hex.
 fn hex_figure(d: u8) -> u8
@@ -84,7 +39,7 @@ fn put_byte(out: &mut [u8], at: usize, b: u8) -> usize
 }
 
 // A reply in hex, or "-" where there is none.
-pub(crate) fn put_reply(out: &mut [u8], at: usize, reply: &[u8]) -> usize
+fn put_reply(out: &mut [u8], at: usize, reply: &[u8]) -> usize
     requires { ⌜ at + length (replyText (now reply)) ≤ length (now out) ⌝ }
     ensures { λ r. ⌜ Emitted (replyText (now (reply .entry))) (now (out .entry)) at (now (out .exit)) r ⌝ }
 {

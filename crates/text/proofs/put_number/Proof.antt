@@ -1,8 +1,8 @@
--- `transcript::text::put_number` meets its contract: the part of the six characters that it writes is the number's text. Assumes nothing.
+-- `text::put_number` meets its contract: the part of the six characters that it writes is the number's text. Assumes nothing.
 use borrow.Author.Needs.{needs}
-use Rattle.transcript.proofs.Figures.{number-written}
-use Rattle.transcript.proofs.text.put_number.Statement.{statement}
-use Rattle.transcript.proofs.text.put_number.Tie as tie
+use Rattle.text.proofs.Figures.{number-written}
+use Rattle.text.proofs.put_number.Statement.{statement}
+use Rattle.text.proofs.put_number.Tie as tie
 
 figure-requires : tie.Need-figure-requires
 figure-requires c κs = tt
@@ -32,13 +32,7 @@ part-put-text-end : tie.Need-part-put-text-end
 part-put-text-end c = search needs
 
 put-text-requires : tie.Need-put-text-requires
-put-text-requires c κs = rw (number-written (c .before .before .before .before .before .before .before .before .before .before .args .n)
-    (c .before .before .before .before .before .before .before .before .before .before .args .end)
-    (c .before .before .before .before .before .before .before .before .figure .ensures)
-    (c .before .before .before .before .before .before .before .figure2 .ensures)
-    (c .before .before .before .before .before .before .figure3 .ensures) (c .before .before .before .before .before .figure4 .ensures)
-    (c .before .before .before .before .figure5 .ensures) (c .before .before .zeros .ensures))
-    (c .before .before .before .before .before .before .before .before .before .before .pre)
+put-text-requires c κs = tt
 
 same-length : tie.Need-same-length
 same-length c = search needs

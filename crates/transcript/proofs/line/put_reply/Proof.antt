@@ -1,21 +1,17 @@
--- `transcript::text::put_reply` meets its contract: one case for each test. Assumes nothing.
+-- `transcript::line::put_reply` meets its contract: one case for each test. Assumes nothing.
 use borrow.Author.Needs.{needs}
 use native.Mathlib.Omega.{arith}
 use mathlib.Core.Path.{ap}
 use lib.ListN.{length}
-use Rattle.transcript.proofs.Figures.{reply-none, reply-hex}
-use Rattle.transcript.proofs.text.put_reply.Statement.{statement}
-use Rattle.transcript.proofs.text.put_reply.Tie as tie
+use Rattle.transcript.proofs.Figures.{reply-dash, reply-hex}
+use Rattle.transcript.proofs.line.put_reply.Statement.{statement}
+use Rattle.transcript.proofs.line.put_reply.Tie as tie
 
 slice-aggregate-put-text : tie.Need-slice-aggregate-put-text
 slice-aggregate-put-text c = search needs
 
 put-text-requires : tie.Need-put-text-requires
-put-text-requires c κs = omega (
-  arith,
-  c .before .before .before .before .before .pre,
-  ap length (reply-none (c .before .before .before .before .before .args .reply .now) (c .before .before .if1 .taken)),
-)
+put-text-requires c κs = tt
 
 put-hex-requires : tie.Need-put-hex-requires
 put-hex-requires c κs = omega (
@@ -28,8 +24,11 @@ same-length : tie.Need-same-length
 same-length c = search needs
 
 returns : tie.Need-returns
-returns c = rw (reply-none (c .before .before .before .before .before .before .before .before .args .reply .now)
-    (c .before .before .before .before .before .if1 .taken)) (c .before .before .put-text .ensures)
+returns c = reply-dash (c .before .before .before .before .before .before .before .before .args .reply .now)
+    (c .before .before .before .before .before .before .before .before .args .out .now)
+    (c .before .before .before .before .before .before .before .before .args .at) (c .before .before .before .before .before .if1 .taken)
+    (c .before .before .before .before .before .before .before .before .pre)
+    (c .before .before .put-text .ensures)
 
 same-length-2 : tie.Need-same-length-2
 same-length-2 c = search needs

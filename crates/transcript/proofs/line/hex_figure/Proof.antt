@@ -1,8 +1,8 @@
--- `transcript::text::hex_figure` meets its contract. Assumes nothing.
+-- `transcript::line::hex_figure` meets its contract. Assumes nothing.
 use borrow.Author.Needs.{needs}
 use Rattle.transcript.proofs.Figures.{hex-figure-low, hex-figure-high}
-use Rattle.transcript.proofs.text.hex_figure.Statement.{statement}
-use Rattle.transcript.proofs.text.hex_figure.Tie as tie
+use Rattle.transcript.proofs.line.hex_figure.Statement.{statement}
+use Rattle.transcript.proofs.line.hex_figure.Tie as tie
 
 add-result : tie.Need-add-result
 add-result c = search needs

@@ -1,13 +1,13 @@
--- `transcript::text::put_hex` meets its contract. The loop's invariant: what is left to write is the hex of the bytes that are left. Assumes nothing.
+-- `transcript::line::put_hex` meets its contract. The loop's invariant: what is left to write is the hex of the bytes that are left. Assumes nothing.
 use borrow.Author.Needs.{needs}
 use Prim.Native.Nat.{_-_, _≤_}
 use native.Mathlib.Omega.{arith}
 use lib.ListN.{length, drop}
-use Rattle.transcript.specs.Text.{hex}
+use Rattle.transcript.specs.Line.{hex}
 use Rattle.transcript.proofs.Figures.{hex-room, hex-onward, hex-complete}
-use Rattle.transcript.proofs.Emitting.{Remaining, whole}
-use Rattle.transcript.proofs.text.put_hex.Statement.{statement}
-use Rattle.transcript.proofs.text.put_hex.Tie as tie
+use Rattle.text.proofs.Emitting.{Remaining, whole}
+use Rattle.transcript.proofs.line.put_hex.Statement.{statement}
+use Rattle.transcript.proofs.line.put_hex.Tie as tie
 
 abbrev Inv-loop : tie.InvT-loop
 Inv-loop out₀ at bytes end₀ i₀ out end i = (i ≤ length bytes) × Remaining (hex bytes) out₀ at (hex (drop i bytes)) out end

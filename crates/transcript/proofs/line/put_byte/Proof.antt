@@ -1,7 +1,8 @@
--- `transcript::text::put_byte` meets its contract: the two figures are those that `hex_figure` found. Assumes nothing.
+-- `transcript::line::put_byte` meets its contract: the two figures are those that `hex_figure` found. Assumes nothing.
 use borrow.Author.Needs.{needs}
-use Rattle.transcript.proofs.text.put_byte.Statement.{statement}
-use Rattle.transcript.proofs.text.put_byte.Tie as tie
+use Rattle.text.proofs.Emitting.{emitted}
+use Rattle.transcript.proofs.line.put_byte.Statement.{statement}
+use Rattle.transcript.proofs.line.put_byte.Tie as tie
 
 hex-figure-requires : tie.Need-hex-figure-requires
 hex-figure-requires c κs = search needs
@@ -13,7 +14,7 @@ slice-aggregate-put-text : tie.Need-slice-aggregate-put-text
 slice-aggregate-put-text c = search needs
 
 put-text-requires : tie.Need-put-text-requires
-put-text-requires c κs = search needs
+put-text-requires c κs = tt
 
 same-length : tie.Need-same-length
 same-length c = search needs
@@ -22,7 +23,9 @@ returns : tie.Need-returns
 returns c = rw (
   ← c .before .before .before .before .before .before .hex-figure .ensures,
   ← c .before .before .before .before .before .hex-figure2 .ensures,
-) (c .before .before .put-text .ensures)
+) (emitted _ (c .before .before .before .before .before .before .before .before .args .out .now)
+    (c .before .before .before .before .before .before .before .before .args .at) (c .before .before .before .before .before .before .before .before .pre)
+    (c .before .before .put-text .ensures))
 
 pub put-byte-spec : {M : Type 1} → statement M
 put-byte-spec =

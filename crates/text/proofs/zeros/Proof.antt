@@ -1,7 +1,7 @@
--- `transcript::text::zeros` meets its contract: one case for each test. Assumes nothing.
-use Rattle.transcript.proofs.Figures.{units, tens, hundreds, thousands, all-five, zeros-counted}
-use Rattle.transcript.proofs.text.zeros.Statement.{statement}
-use Rattle.transcript.proofs.text.zeros.Tie as tie
+-- `text::zeros` meets its contract: one case for each test. Assumes nothing.
+use Rattle.text.proofs.Figures.{units, tens, hundreds, thousands, all-five, zeros-counted}
+use Rattle.text.proofs.zeros.Statement.{statement}
+use Rattle.text.proofs.zeros.Tie as tie
 
 returns : tie.Need-returns
 returns c = zeros-counted _ (units _ (c .if1 .taken))

@@ -1,10 +1,11 @@
--- `replay::read_input` is safe, ends, and stays within the buffer: each turn but the last reads a byte or more. Assumes nothing.
+-- `input::read_input` is safe, ends, and stays within the buffer: each turn but the last reads a byte or more. Assumes nothing.
 use borrow.Author.Needs.{needs}
 use Prim.Native.Nat.{_-_, _≤_}
+use native.Mathlib.Omega.{arith}
 use mathlib.Core.Path.{_≡_}
 use lib.ListN as ListN
-use Rattle.replay.proofs.read_input.Statement.{statement}
-use Rattle.replay.proofs.read_input.Tie as tie
+use Rattle.input.proofs.read_input.Statement.{statement}
+use Rattle.input.proofs.read_input.Tie as tie
 
 abbrev Inv-loop : tie.InvT-loop
 Inv-loop buf₀ length₀ buf length = (ListN.length buf ≡ ListN.length buf₀) × (length ≤ ListN.length buf)
@@ -55,7 +56,7 @@ add-length : tie.Need-add-length Inv-loop μ-loop
 add-length c = search needs
 
 loop-less : tie.Need-loop-less Inv-loop μ-loop
-loop-less c = search needs
+loop-less c = omega arith
 
 loop-again : tie.Need-loop-again Inv-loop μ-loop
 loop-again c = search needs
@@ -64,7 +65,7 @@ same-length-3 : tie.Need-same-length-3 Inv-loop μ-loop
 same-length-3 c = search needs
 
 returns-3 : tie.Need-returns-3 Inv-loop μ-loop
-returns-3 c = search needs
+returns-3 c = omega arith
 
 pub read-input-spec : {M : Type 1} → statement M
 read-input-spec =

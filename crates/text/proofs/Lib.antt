@@ -1,0 +1,3 @@
+pub mod Emitting
+pub mod Figures
+pub mod Cases
