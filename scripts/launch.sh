@@ -1,8 +1,9 @@
 # Sourced by the launchers of the Rattle programs.
 
 # launch PROGRAM [INPUT]: runs a built program on INPUT, or on standard input, and ends with its exit
-# status. A Rattle program cannot choose that: where it tells a failure, in a line on standard error
-# that begins with 'PROGRAM: ', the status is 1. Other lines are passed on, and change nothing.
+# status. A Rattle program cannot choose that: where it tells a failure on standard error, in a line
+# that begins with 'PROGRAM: ', or a refusal, in a line that is its number alone, the status is 1.
+# Other lines are passed on, and change nothing; where they cannot be, the status is 1 too.
 launch() {
     local program=$1 binary errors status=0
     binary=$(dirname "${BASH_SOURCE[0]}")/../target/bin/$program
@@ -17,8 +18,7 @@ launch() {
     trap 'rm -f "$errors"' EXIT
     # A pipe that nobody reads is then a failed write, told like any other, and no signal.
     (trap '' PIPE && exec "$binary") 2>"$errors" || status=$?
-    cat "$errors" >&2 || true
-    if grep -q "^$program: " "$errors"; then
+    if [ -s "$errors" ] && ! cat "$errors" >&2 || grep -Eqx "$program: .*|[0-9]+" "$errors"; then
         status=1
     fi
     exit "$status"

@@ -1,0 +1,5 @@
+pub mod Stretches
+pub mod Steps
+pub mod Runs
+pub mod Accounts
+pub mod Cases

@@ -1,0 +1,4 @@
+pub mod Account
+pub mod Answers
+pub mod Inner
+pub mod Cases
