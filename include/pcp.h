@@ -5,7 +5,7 @@
    ends: it reads what arrives, keeps the upgrade's state, and writes what is to
    be sent.  It sends and receives nothing itself, knows no clock and allocates
    nothing: its caller, the host, owns radio, timers and flash.  What a host has
-   to know is in this file.
+   to know is in this file; captures of exchanges are in pcp_capture.h.
 
    The functions to call:
 
@@ -596,6 +596,11 @@ enum {
                                      PCP_SIZE_MAX */
     PCP_BAD_PACKAGE = 19,         /* package empty, or longer than 65,535
                                      fragments */
+    PCP_BAD_MARK = 20,            /* of captures, see pcp_capture.h: no record
+                                     begins here */
+    PCP_CUT_SHORT = 21,           /* of captures: a record is not whole */
+    PCP_DOES_NOT_FIT = 22,        /* of captures: no room for the record, or its
+                                     message is longer than 65,535 bytes */
     PCP_REPEAT_DIFFERS = 23,      /* this fragment is there already, with other
                                      bytes or another length: the phase is now
                                      Failed.  Save, and ask, so that the gateway

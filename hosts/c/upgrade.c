@@ -1,7 +1,9 @@
-/* upgrade PACKAGE [SEED [SIZE]] - upgrades a simulated device from a package
-   file, over a simulated link that loses, repeats, delays and reorders messages,
-   and is down at times.  The seed, a number, fixes what goes wrong.  The size is
-   that of a fragment: as in public platforms' packages, if none is given.
+/* upgrade [--capture FILE] PACKAGE [SEED [SIZE]] - upgrades a simulated device
+   from a package file, over a simulated link that loses, repeats, delays and
+   reorders messages, and is down at times.  The seed, a number, fixes what goes
+   wrong.  The size is that of a fragment: as in public platforms' packages, if
+   none is given.  With a file, the exchange is recorded there as a capture: what
+   arrives at the device, and what it sends.
 
    This is an example of both hosts of pcp.h.  Device and gateway know of each
    other only what the link brings.  What a host has to do, and can be copied:
@@ -16,7 +18,7 @@
      unanswered, and when a new gateway takes over
 
    hosts/rust/upgrade.rs is the same program in Rust, and prints the same. */
-#include "pcp.h"
+#include "pcp_capture.h"
 
 #include <errno.h>
 #include <stdbool.h>
@@ -160,6 +162,22 @@ static uint8_t code_of(const struct message *message)
     return message->length > 3 ? message->bytes[3] : 0;
 }
 
+/* A record of the exchange.  There may be no capture, and an empty message is
+   none. */
+static void capture_message(FILE *capture, bool toward_device,
+                            const uint8_t *message, size_t length)
+{
+    uint8_t record[PCP_CAPTURE_HEADER + PCP_GATEWAY_REPLY];
+    pcp_written written;
+
+    if (capture == NULL || length == 0)
+        return;
+    written = pcp_capture_write(toward_device, message, length, record,
+                                sizeof record, 0);
+    note_number("pcp_capture_write", written.number);
+    fwrite(record, 1, written.next, capture); /* main sees if it failed */
+}
+
 /* The device's host. */
 
 struct device {
@@ -167,6 +185,7 @@ struct device {
     uint8_t image[IMAGE_LENGTH];
     uint8_t map[MAP_LENGTH];
     uint64_t random;
+    FILE *capture;              /* of the exchange; NULL if it is not recorded */
     unsigned long ask_at;       /* when to ask for the next message */
     bool installing;            /* the installer is at work */
     unsigned long installed_at; /* and will be done */
@@ -174,12 +193,13 @@ struct device {
 };
 
 /* The map is not cleared: an announcement does it. */
-static void device_start(struct device *device, uint64_t seed)
+static void device_start(struct device *device, uint64_t seed, FILE *capture)
 {
     memset(device, 0, sizeof *device);
     memset(device->image, ERASED, sizeof device->image);
     memset(device->map, ERASED, sizeof device->map);
     device->random = seed;
+    device->capture = capture;
     note_number("pcp_device_new",
                 pcp_device_new(device->record, sizeof device->record, RUNNING,
                                strlen(RUNNING)));
@@ -189,6 +209,13 @@ static void device_start(struct device *device, uint64_t seed)
 static uint8_t device_condition(struct device *device)
 {
     return once_in(&device->random, BUSY) ? PCP_BUSY : PCP_READY;
+}
+
+static void device_send(struct device *device, struct link *link,
+                        unsigned long now, const uint8_t *bytes, size_t length)
+{
+    capture_message(device->capture, false, bytes, length);
+    link_send(link, now, GATEWAY, bytes, length);
 }
 
 /* For the account.  An offer that was accepted and changed nothing is a
@@ -235,13 +262,14 @@ static void device_receive(struct device *device, struct link *link,
         message->bytes, message->length, device->image, sizeof device->image,
         device->map, sizeof device->map, reply, sizeof reply);
 
+    capture_message(device->capture, true, message->bytes, message->length);
     note_number("pcp_device_receive", answer.number);
     device_count(device, message, answer, reply);
     if (answer.changed)
         device->ask_at = now;
     if (answer.number != PCP_HANDLED)
         return;
-    link_send(link, now, GATEWAY, reply, answer.length);
+    device_send(device, link, now, reply, answer.length);
     if (pcp_device_phase(device->record) == PCP_DEVICE_INSTALLING)
         device_install(device, now);
 }
@@ -257,7 +285,7 @@ static void device_ask(struct device *device, struct link *link,
         sizeof reply);
 
     note_number("pcp_device_next_message", answer.number);
-    link_send(link, now, GATEWAY, reply, answer.length);
+    device_send(device, link, now, reply, answer.length);
     device->ask_at = now + RETRY;
 }
 
@@ -554,7 +582,7 @@ static int report(const struct device *device, const struct gateway *gateway,
 }
 
 static int run(const uint8_t *package, size_t package_length, uint64_t seed,
-               uint16_t size)
+               uint16_t size, FILE *capture)
 {
     static struct device device; /* too large for a stack */
     struct gateway gateway = {.package = package,
@@ -573,7 +601,7 @@ static int run(const uint8_t *package, size_t package_length, uint64_t seed,
                                          : "");
         return EXIT_FAILURE;
     }
-    device_start(&device, ~seed);
+    device_start(&device, ~seed, capture);
     return report(&device, &gateway, &link,
                   upgrade(&device, &gateway, &link));
 }
@@ -606,19 +634,46 @@ static bool read_number(const char *text, uint64_t most, uint64_t *number)
     return errno == 0 && *number <= most;
 }
 
+/* Runs, and sees that the capture was written, if there is one. */
+static int run_captured(const uint8_t *package, size_t package_length,
+                        uint64_t seed, uint16_t size, const char *path)
+{
+    FILE *capture = path == NULL ? NULL : fopen(path, "wb");
+    int status;
+
+    if (path != NULL && capture == NULL) {
+        fprintf(stderr, "upgrade: cannot write %s: %s\n", path,
+                strerror(errno));
+        return EXIT_FAILURE;
+    }
+    status = run(package, package_length, seed, size, capture);
+    if (capture != NULL && (ferror(capture) | fclose(capture)) != 0) {
+        fprintf(stderr, "upgrade: cannot write %s\n", path);
+        return EXIT_FAILURE;
+    }
+    return status;
+}
+
 int main(int count, char **arguments)
 {
     static uint8_t package[MOST_PACKAGE + 1];
     size_t length = 0;
     uint64_t seed = 1, size = PCP_SIZE_PUBLIC;
+    const char *capture = NULL;
 
+    if (count > 1 && strcmp(arguments[1], "--capture") == 0) {
+        capture = arguments[2]; /* NULL if there is none, a wrong use */
+        arguments += 2;
+        count -= 2;
+    }
     if (count < 2 || count > 4 ||
         (count > 2 && !read_number(arguments[2], UINT64_MAX, &seed)) ||
         (count > 3 && !read_number(arguments[3], UINT16_MAX, &size))) {
-        fputs("usage: upgrade PACKAGE [SEED [SIZE]]\n", stderr);
+        fputs("usage: upgrade [--capture FILE] PACKAGE [SEED [SIZE]]\n",
+              stderr);
         return 2;
     }
     if (!read_package(arguments[1], package, sizeof package, &length))
         return EXIT_FAILURE;
-    return run(package, length, seed, (uint16_t)size);
+    return run_captured(package, length, seed, (uint16_t)size, capture);
 }

@@ -10,6 +10,7 @@
 //!   [`next_message`](Device::next_message) to ask what it has to send, [`install_finished`](Device::install_finished)
 //! - [`Gateway`] is the gateway's: [`start`](Gateway::start), [`receive`](Gateway::receive),
 //!   [`next_message`](Gateway::next_message)
+//! - [`capture`] writes, reads and mends captures of exchanges
 //! - a call gives an answer, or a [`Refusal`], and then it has changed nothing, but for
 //!   [`RepeatDiffers`](Refusal::RepeatDiffers)
 //!
@@ -283,6 +284,7 @@
 use core::fmt;
 use core::ops::Range;
 
+pub mod capture;
 #[allow(missing_docs)] // the calls' names are those of the methods here
 pub mod raw;
 
@@ -461,10 +463,11 @@ bytes_named! {
     /// Up to AlreadyStored they are daily work: the message is dropped. Unsupported and OtherProtocol repeat the facts
     /// that the host stated; BadStart may be other traffic on the port; BadCheck is damage, and the message will come
     /// again; NoUse and AlreadyStored are late or repeated messages. On RepeatDiffers a fragment came that is stored
-    /// with other bytes, so that two builds have met: save, and ask, so that the gateway is told by a 22 with `07`. The
-    /// others are faults of the host or its memory, see [`is_hosts_fault`](Refusal::is_hosts_fault): on BadMemory it
-    /// lends what it lent before, and if it cannot, or on BadRecord, begins anew with [`Device::new`] or
-    /// [`Gateway::start`]. UnknownCondition, BadInstallCode and ShortRecord come from [`raw`] calls only.
+    /// with other bytes, so that two builds have met: save, and ask, so that the gateway is told by a 22 with `07`.
+    /// Those of captures, BadMark and CutShort, are a file's. The others are faults of the host or its memory, see
+    /// [`is_hosts_fault`](Refusal::is_hosts_fault): on BadMemory it lends what it lent before, and if it cannot, or on
+    /// BadRecord, begins anew with [`Device::new`] or [`Gateway::start`]. UnknownCondition, BadInstallCode and
+    /// ShortRecord come from [`raw`] calls only; BadMark, CutShort and DoesNotFit from those of [`capture`].
     #[non_exhaustive]
     Refusal {
         Unsupported = 1: "the device does not support software upgrade",
@@ -486,6 +489,9 @@ bytes_named! {
         BadVersionText = 17: "bad version text",
         BadSize = 18: "fragment size not from 32 to 1024",
         BadPackage = 19: "package empty, or longer than 65,535 fragments",
+        BadMark = 20: "no record of a capture begins here",
+        CutShort = 21: "a record of a capture is not whole",
+        DoesNotFit = 22: "no room for a record, or its message is longer than 65,535 bytes",
         RepeatDiffers = 23: "fragment already stored with other bytes: the download has failed",
         BadRecord = 29: "not a record, or not this map's",
         ShortRecord = 64: "record buffer too short",
@@ -496,7 +502,8 @@ impl Refusal {
     /// Not part of the daily work: the host lends or states something wrong, or the package or its memory is at fault.
     /// To be told to a person or a log: the same call again gets the same refusal.
     pub fn is_hosts_fault(self) -> bool {
-        self >= Refusal::UnknownCondition && self != Refusal::RepeatDiffers
+        self >= Refusal::UnknownCondition
+            && !matches!(self, Refusal::BadMark | Refusal::CutShort | Refusal::RepeatDiffers)
     }
 }
 

@@ -1,8 +1,8 @@
 //! The archive's calls over slices of any length: also a record buffer that is too short, or that holds any bytes.
-//! Facts are `[supported, pcp]`, 0 for no and anything else for yes. A host calls [`Device`](crate::Device) and
-//! [`Gateway`](crate::Gateway) instead; these are for tests.
+//! Facts are `[supported, pcp]`, 0 for no and anything else for yes. A host calls [`Device`](crate::Device),
+//! [`Gateway`](crate::Gateway) and [`capture`](crate::capture) instead; these are for tests.
 
-/// The archive's symbols. Their declarations are those of `include/pcp.h`.
+/// The archive's symbols. Their declarations are those of `include/pcp.h` and `include/pcp_capture.h`.
 mod archive {
     extern "C" {
         pub fn pcp_check(bytes: *const u8, length: usize) -> u16;
@@ -70,6 +70,17 @@ mod archive {
             reply: *mut u8,
             reply_length: usize,
         ) -> u32;
+        pub fn pcp_raw_capture_kind(capture: *const u8, capture_length: usize, at: usize) -> u8;
+        pub fn pcp_raw_capture_next(capture: *const u8, capture_length: usize, at: usize) -> usize;
+        pub fn pcp_raw_capture_mended(capture: *const u8, capture_length: usize, at: usize) -> usize;
+        pub fn pcp_raw_capture_write(
+            toward: u8,
+            message: *const u8,
+            message_length: usize,
+            buffer: *mut u8,
+            buffer_length: usize,
+            at: usize,
+        ) -> u8;
     }
 }
 
@@ -223,4 +234,37 @@ pub fn gateway_next_message(record: &[u8], package: &[u8], reply: &mut [u8]) -> 
             reply.len(),
         )
     })
+}
+
+#[inline]
+pub fn capture_kind(capture: &[u8], at: usize) -> u8 {
+    // SAFETY: slices, see above.
+    unsafe { archive::pcp_raw_capture_kind(capture.as_ptr(), capture.len(), at) }
+}
+
+#[inline]
+pub fn capture_next(capture: &[u8], at: usize) -> usize {
+    // SAFETY: slices, see above.
+    unsafe { archive::pcp_raw_capture_next(capture.as_ptr(), capture.len(), at) }
+}
+
+#[inline]
+pub fn capture_mended(capture: &[u8], at: usize) -> usize {
+    // SAFETY: slices, see above.
+    unsafe { archive::pcp_raw_capture_mended(capture.as_ptr(), capture.len(), at) }
+}
+
+#[inline]
+pub fn capture_write(toward: u8, message: &[u8], buffer: &mut [u8], at: usize) -> u8 {
+    // SAFETY: slices, see above.
+    unsafe {
+        archive::pcp_raw_capture_write(
+            toward,
+            message.as_ptr(),
+            message.len(),
+            buffer.as_mut_ptr(),
+            buffer.len(),
+            at,
+        )
+    }
 }

@@ -1,6 +1,7 @@
-//! `upgrade PACKAGE [SEED [SIZE]]` upgrades a simulated device from a package file, over a simulated link that loses,
-//! repeats, delays and reorders messages, and is down at times. The seed, a number, fixes what goes wrong. The size is
-//! that of a fragment: as in public platforms' packages, if none is given.
+//! `upgrade [--capture FILE] PACKAGE [SEED [SIZE]]` upgrades a simulated device from a package file, over a simulated link
+//! that loses, repeats, delays and reorders messages, and is down at times. The seed, a number, fixes what goes wrong. The
+//! size is that of a fragment: as in public platforms' packages, if none is given. With a file, the exchange is recorded
+//! there as a capture: what arrives at the device, and what it sends.
 //!
 //! This is an example of both hosts of the crate `pcp`. Device and gateway know of each other only what the link
 //! brings. What a host has to do, and can be copied:
@@ -13,6 +14,7 @@
 //!
 //! hosts/c/upgrade.c is the same program in C, and prints the same.
 
+use pcp::capture::{self, Direction};
 use pcp::{Code, Condition, Device, DevicePhase, Ending, Facts, Gateway, GatewayPhase, InstallCode, Refusal};
 use pcp::{DeviceAnswer, DEVICE_REPLY, GATEWAY_REPLY, SIZE_MAX, SIZE_MIN, SIZE_PUBLIC};
 use std::fmt::Arguments;
@@ -69,6 +71,7 @@ const MOST_FRUITLESS: u32 = 10;
 enum Failure {
     Usage,
     Read(String, io::Error),
+    Write(String, io::Error),
     Package(Refusal),
     /// This program lends or states something wrong.
     Call(&'static str, Refusal),
@@ -77,8 +80,9 @@ enum Failure {
 impl fmt::Display for Failure {
     fn fmt(&self, f: &mut fmt::Formatter) -> fmt::Result {
         match self {
-            Failure::Usage => write!(f, "usage: upgrade PACKAGE [SEED [SIZE]]"),
+            Failure::Usage => write!(f, "usage: upgrade [--capture FILE] PACKAGE [SEED [SIZE]]"),
             Failure::Read(path, error) => write!(f, "upgrade: cannot read {}: {}", path, error),
+            Failure::Write(path, error) => write!(f, "upgrade: cannot write {}: {}", path, error),
             Failure::Package(refusal) => {
                 write!(f, "upgrade: package refused with {}, {}", u8::from(*refusal), refusal)
             }
@@ -186,11 +190,34 @@ fn result_of(message: &[u8]) -> Option<u8> {
     message.get(8).copied()
 }
 
+/// Records an exchange as a capture, message by message.
+struct Recorder {
+    path: String,
+    file: File,
+}
+
+impl Recorder {
+    fn new(path: &str) -> Result<Recorder, Failure> {
+        match File::create(path) {
+            Ok(file) => Ok(Recorder { path: path.to_string(), file }),
+            Err(error) => Err(Failure::Write(path.to_string(), error)),
+        }
+    }
+
+    fn record(&mut self, direction: Direction, message: &[u8]) -> Result<(), Failure> {
+        let mut record = [0; capture::HEADER + GATEWAY_REPLY];
+        let end = capture::write(direction, message, &mut record, 0)
+            .map_err(|refusal| Failure::Call("capture::write", refusal))?;
+        self.file.write_all(&record[..end]).map_err(|error| Failure::Write(self.path.clone(), error))
+    }
+}
+
 struct DeviceHost {
     device: Device,
     image: Vec<u8>,
     map: Vec<u8>,
     random: Random,
+    recorder: Option<Recorder>,
     /// When to ask for the next message.
     ask_at: Ticks,
     /// When the installer will be done, if it is at work.
@@ -202,7 +229,7 @@ struct DeviceHost {
 
 impl DeviceHost {
     /// The map is not cleared: an announcement does it.
-    fn new(seed: u64) -> Result<DeviceHost, Failure> {
+    fn new(seed: u64, recorder: Option<Recorder>) -> Result<DeviceHost, Failure> {
         let device =
             Device::new(RUNNING.as_bytes()).map_err(|refusal| Failure::Call("Device::new", refusal))?;
         Ok(DeviceHost {
@@ -210,6 +237,7 @@ impl DeviceHost {
             image: vec![ERASED; IMAGE_LENGTH],
             map: vec![ERASED; MAP_LENGTH],
             random: Random(seed),
+            recorder,
             ask_at: 0,
             installed_at: None,
             resumes: 0,
@@ -231,6 +259,7 @@ impl DeviceHost {
     /// changed record is a reason to ask at once: a host that asked after every arrival would double all that follows a
     /// repeated message.
     fn receive(&mut self, link: &mut Link, now: Ticks, message: &[u8]) -> Result<(), Failure> {
+        self.record(Direction::ToDevice, message)?;
         let condition = self.condition();
         let mut reply = [0; DEVICE_REPLY];
         let (image, map) = (&mut self.image, &mut self.map);
@@ -246,7 +275,7 @@ impl DeviceHost {
         };
         self.count(message, &answer);
         if let Some(reply) = answer.reply {
-            link.send(now, End::Gateway, reply);
+            self.send(link, now, reply)?;
         }
         if answer.changed {
             self.ask_at = now;
@@ -254,6 +283,19 @@ impl DeviceHost {
         if self.device.phase() == DevicePhase::Installing {
             self.install(now)?;
         }
+        Ok(())
+    }
+
+    fn record(&mut self, direction: Direction, message: &[u8]) -> Result<(), Failure> {
+        match &mut self.recorder {
+            Some(recorder) => recorder.record(direction, message),
+            None => Ok(()),
+        }
+    }
+
+    fn send(&mut self, link: &mut Link, now: Ticks, message: &[u8]) -> Result<(), Failure> {
+        self.record(Direction::FromDevice, message)?;
+        link.send(now, End::Gateway, message);
         Ok(())
     }
 
@@ -270,7 +312,7 @@ impl DeviceHost {
         let mut reply = [0; DEVICE_REPLY];
         let answer = self.device.next_message(&self.image, &self.map, &mut reply);
         if let Some(message) = expected("Device::next_message", answer)?.flatten() {
-            link.send(now, End::Gateway, message);
+            self.send(link, now, message)?;
         }
         self.ask_at = now + RETRY;
         Ok(())
@@ -545,23 +587,38 @@ fn read_number<T: FromStr>(text: &str) -> Option<T> {
     text.parse().ok().filter(|_| text.bytes().all(|byte| byte.is_ascii_digit()))
 }
 
-fn arguments() -> Option<(String, u64, u16)> {
+/// What the program is called with.
+struct Call {
+    capture: Option<String>,
+    package: String,
+    seed: u64,
+    size: u16,
+}
+
+fn arguments() -> Option<Call> {
     let arguments: Vec<String> =
         env::args_os().skip(1).map(|argument| argument.into_string().ok()).collect::<Option<_>>()?;
-    match arguments.as_slice() {
-        [path] => Some((path.clone(), 1, SIZE_PUBLIC)),
-        [path, seed] => Some((path.clone(), read_number(seed)?, SIZE_PUBLIC)),
-        [path, seed, size] => Some((path.clone(), read_number(seed)?, read_number(size)?)),
-        _ => None,
-    }
+    let (capture, others) = match arguments.as_slice() {
+        [option, path, others @ ..] if option == "--capture" => (Some(path.clone()), others),
+        [option] if option == "--capture" => return None,
+        others => (None, others),
+    };
+    let (package, seed, size) = match others {
+        [package] => (package, 1, SIZE_PUBLIC),
+        [package, seed] => (package, read_number(seed)?, SIZE_PUBLIC),
+        [package, seed, size] => (package, read_number(seed)?, read_number(size)?),
+        _ => return None,
+    };
+    Some(Call { capture, package: package.clone(), seed, size })
 }
 
 fn run() -> Result<bool, Failure> {
-    let (path, seed, size) = arguments().ok_or(Failure::Usage)?;
-    let package = read_package(&path)?;
-    let mut gateway = GatewayHost::new(&package, size)?;
-    let mut device = DeviceHost::new(!seed)?;
-    let mut link = Link::new(seed);
+    let call = arguments().ok_or(Failure::Usage)?;
+    let package = read_package(&call.package)?;
+    let mut gateway = GatewayHost::new(&package, call.size)?;
+    let recorder = call.capture.as_deref().map(Recorder::new).transpose()?;
+    let mut device = DeviceHost::new(!call.seed, recorder)?;
+    let mut link = Link::new(call.seed);
     let succeeded = upgrade(&mut device, &mut gateway, &mut link)?;
     Ok(report(&device, &gateway, &link, succeeded))
 }

@@ -2,3 +2,4 @@ pub mod Fits
 pub mod ExportLaws
 pub mod Refusals
 pub mod Carrying
+pub mod CaptureItems

@@ -22,11 +22,14 @@ use Rattle.device.specs.declared.Finished.{Finished}
 use Rattle.device.specs.Rules as device
 use Rattle.gateway_record.specs.declared.Gateway.{Gateway}
 use Rattle.gateway.specs.Rules as gateway
+use Rattle.capture.specs.Writing.{Wrote}
+use Rattle.capture.proofs.Written.{writing}
 use Rattle.layout.specs.Layout.{deviceBytes, deviceAt, deviceLength, gatewayAt, gatewayLength}
 use Rattle.layout.proofs.Identity.{identity}
 use Rattle.layout.proofs.Layouts.{kept-new}
-use Rattle.pcp.specs.Exports.{packed, Left, Asked, DeviceGiven, GatewayGiven, askAnswer, deviceNewOf, deviceReceiveOf, deviceNextMessageOf}
+use Rattle.pcp.specs.Exports.{fact, packed, Left, Asked, DeviceGiven, GatewayGiven, askAnswer, deviceNewOf, deviceReceiveOf, deviceNextMessageOf}
 use Rattle.pcp.specs.Exports.{deviceInstallFinishedOf, deviceKept, gatewayKept, gatewayStartOf, gatewayReceiveOf, gatewayNextMessageOf}
+use Rattle.pcp.specs.Captures.{captureWriteOf}
 use Rattle.pcp.specs.Boundary.{numberIn, lengthIn, Refused, LeftAlone, Demand1}
 
 -- ---- refusals have numbers below 256, and all but one of them leave the record alone
@@ -288,8 +291,8 @@ finished-returned d code =
     by-cases (λ (f : Finished). (f .number ≡ 0 → ⊥) → f .device ≡ d) (λ _ h. absurd (h refl)) (λ _ _. refl)
 
 pub demand-1 : Demand1
-unfolding deviceNewOf deviceReceiveOf deviceNextMessageOf deviceInstallFinishedOf gatewayStartOf gatewayReceiveOf gatewayNextMessageOf Unkept Unsaid
-    DeviceUntouched DeviceFailed GatewayUntouched
+unfolding deviceNewOf deviceReceiveOf deviceNextMessageOf deviceInstallFinishedOf gatewayStartOf gatewayReceiveOf gatewayNextMessageOf captureWriteOf
+    Unkept Unsaid DeviceUntouched DeviceFailed GatewayUntouched
 demand-1 =
     record {
       device-new = λ bytes version. by-cases (Unkept bytes) (λ _ h. unmade _ _ bytes h) (λ _ h. refl);
@@ -313,6 +316,7 @@ demand-1 =
           (λ _ h. (omega arith, refl, refl));
       gateway-next-message = λ bytes content reply.
           by-cases (Unsaid toDevice reply) (λ _. gateway-ask-refused (gatewayAt bytes) content reply) (λ _ h. (omega arith, refl));
+      capture-write = λ toward message buffer at h. ap (λ (w : Wrote). w .buffer) (writing .refused (fact toward) message buffer at (λ e. h (omega arith)));
       device-record = λ d image map reply supported pcp condition message.
           device-returned d image map reply _ (device-outcome d image map reply supported pcp condition message);
       device-record-repeat-differs = λ d image map reply supported pcp condition message.

@@ -16,6 +16,7 @@ use Rattle.gateway_record.specs.Record.{startOf}
 use Rattle.gateway.specs.Rules as gateway
 use Rattle.layout.specs.Layout.{deviceAt, deviceLength, gatewayAt, gatewayLength}
 use Rattle.pcp.specs.Exports.{fact, textOf, Left, Asked, DeviceGiven, GatewayGiven, deviceNewOf, deviceReceiveOf, deviceNextMessageOf}
+use Rattle.pcp.specs.Captures.{captureWriteOf}
 use Rattle.pcp.specs.Exports.{deviceInstallFinishedOf, gatewayStartOf, gatewayReceiveOf, gatewayNextMessageOf}
 
 -- the number in an answer, and the length of the reply
@@ -60,6 +61,8 @@ pub record Demand1 : Type 0 where
       Refused (g .answer) → (lengthIn (g .answer) ≡ 0) × (g .bytes ≡ bytes) × (g .reply ≡ reply)
   pub gateway-next-message : (bytes content reply : List ℕ) → let a : Asked = gatewayNextMessageOf bytes content reply in
       Refused (a .answer) → (lengthIn (a .answer) ≡ 0) × (a .reply ≡ reply)
+  pub capture-write : (toward : ℕ) (message buffer : List ℕ) (at : ℕ) → let k : Left = captureWriteOf toward message buffer at in
+      Refused (k .answer) → k .bytes ≡ buffer
   -- and of the record itself: a refused call returns the one that it was given, with the number 23 in Failed
   pub device-record : (d : Device) (image map reply : List ℕ) (supported pcp : Bool) (condition : ℕ) (message : List ℕ)
       → let a : device.After = device.receiveOf d image map reply supported pcp condition message in

@@ -2,6 +2,7 @@
 // None asks its caller to have checked anything; a slice with no bytes needs a pointer all the same,
 // which the header's own functions see to.
 mod answers;
+mod capture_calls;
 mod device_calls;
 mod gateway_calls;
 

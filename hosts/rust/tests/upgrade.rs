@@ -1,5 +1,7 @@
 //! A whole upgrade without losses, by the crate's types alone: what each call answers, and what it says has changed.
+//! And captures, written, read and mended.
 
+use pcp::capture::{self, Direction, Item, Reader, Record};
 use pcp::{
     Code, Condition, Device, DevicePhase, Ending, Facts, Gateway, GatewayPhase, InstallCode, Refusal,
     DEVICE_RECORD, DEVICE_REPLY, GATEWAY_RECORD, GATEWAY_REPLY,
@@ -235,7 +237,7 @@ fn values_and_bytes_are_each_others() {
     assert_eq!(known::<Condition>(), [0, 1, 2, 4, 127]);
     assert_eq!(known::<InstallCode>(), [0x00, 0x01, 0x04, 0x05, 0x09, 0x0A, 0x7F]);
     assert_eq!(known::<Ending>(), [0, 1, 2, 3, 4, 5]);
-    assert_eq!(known::<Refusal>(), [&(1..=19).collect::<Vec<_>>()[..], &[23, 29, 64]].concat());
+    assert_eq!(known::<Refusal>(), [&(1..=23).collect::<Vec<_>>()[..], &[29, 64]].concat());
     assert_eq!(Ending::try_from(6).unwrap_err().to_string(), "unknown byte 06");
 }
 
@@ -257,4 +259,84 @@ fn refusals_have_reasons() {
 fn checks_are_the_published_ones() {
     assert_eq!(pcp::check_of_bytes(PACKAGE), 0xE7C6);
     assert_eq!(pcp::check_of_message(b"\xFF\xFE\x01\x13\x12\x34\0\0"), 0x4C9A);
+}
+
+const QUERY: &[u8] = b"\xFF\xFE\x01\x13\x4C\x9A\0\0";
+
+/// A query toward the device, any bytes from it, and the query again; and the places between them.
+fn recorded() -> (Vec<u8>, [usize; 3]) {
+    let mut bytes = vec![ERASED; 64];
+    let first = capture::write(Direction::ToDevice, QUERY, &mut bytes, 0).unwrap();
+    let second = capture::write(Direction::FromDevice, b"any", &mut bytes, first).unwrap();
+    let end = capture::write(Direction::ToDevice, QUERY, &mut bytes, second).unwrap();
+    assert!(bytes[end..].iter().all(|byte| *byte == ERASED));
+    bytes.truncate(end);
+    (bytes, [first, second, end])
+}
+
+#[test]
+fn a_capture_is_read_as_it_was_written() {
+    let (bytes, [first, second, end]) = recorded();
+    assert_eq!((first, second, end), (12, 19, 31));
+    assert_eq!(bytes[..first], [b"\x4C\x3E\0\x08", QUERY].concat());
+    assert_eq!(bytes[first..second], *b"\x4C\x3C\0\x03any");
+    let query = Record { direction: Direction::ToDevice, message: QUERY };
+    let any = Record { direction: Direction::FromDevice, message: b"any" };
+    let (mut reader, mut mending) = (Reader::new(&bytes), Reader::new(&bytes));
+    for (record, place) in [(query, first), (any, second), (query, end)] {
+        assert_eq!((reader.next_record(), reader.place()), (Ok(Some(record)), place));
+        assert_eq!((mending.next_mended(), mending.place()), (Some(Item::Record(record)), place));
+    }
+    assert_eq!((reader.next_record(), reader.place()), (Ok(None), end));
+    assert_eq!((mending.next_mended(), mending.place()), (None, end));
+    assert_eq!(Reader::from(&bytes, first).next_record(), Ok(Some(any)));
+    assert_eq!(Reader::from(&bytes, usize::MAX).next_record(), Ok(None));
+    assert_eq!(Reader::from(&bytes, usize::MAX).next_mended(), None);
+}
+
+#[test]
+fn a_damaged_capture_is_mended() {
+    let (mut bytes, [first, second, end]) = recorded();
+    bytes[first] = 0x00;
+    let mut reader = Reader::from(&bytes, first);
+    for _ in 0..2 {
+        assert_eq!((reader.next_record(), reader.place()), (Err(Refusal::BadMark), first));
+    }
+    // The bytes that are no message of PCP are passed over with the damage.
+    let query = Record { direction: Direction::ToDevice, message: QUERY };
+    assert_eq!(reader.next_mended(), Some(Item::Passed(first..second)));
+    assert_eq!((reader.next_mended(), reader.place()), (Some(Item::Record(query)), end));
+    assert_eq!(reader.next_mended(), None);
+    let cut = &bytes[..end - 1];
+    let mut reader = Reader::from(cut, second);
+    assert_eq!((reader.next_record(), reader.place()), (Err(Refusal::CutShort), second));
+    assert_eq!(reader.next_mended(), Some(Item::Passed(second..end - 1)));
+    assert_eq!((reader.next_mended(), reader.place()), (None, end - 1));
+}
+
+#[test]
+fn a_record_without_room_is_refused_whole() {
+    let message = vec![0; capture::MESSAGE_MOST + 1];
+    let mut buffer = vec![ERASED; capture::HEADER + message.len()];
+    for (length, room, at) in [
+        (message.len(), buffer.len(), 0),
+        (capture::MESSAGE_MOST, buffer.len() - 2, 0),
+        (capture::MESSAGE_MOST, buffer.len(), 2),
+        (0, 8, 5),
+        (0, 8, 8),
+        (0, 8, usize::MAX),
+        (0, 0, 0),
+    ] {
+        let (message, buffer) = (&message[..length], &mut buffer[..room]);
+        let refused = capture::write(Direction::ToDevice, message, buffer, at);
+        assert_eq!(refused, Err(Refusal::DoesNotFit));
+    }
+    assert!(buffer.iter().all(|byte| *byte == ERASED));
+    let longest = &message[..capture::MESSAGE_MOST];
+    let end = capture::write(Direction::FromDevice, longest, &mut buffer, 1);
+    assert_eq!(end, Ok(buffer.len()));
+    assert_eq!(buffer[..5], [ERASED, 0x4C, 0x3C, 0xFF, 0xFF]);
+    // Damage is daily work; a buffer that is too short is the host's.
+    assert!(!Refusal::BadMark.is_hosts_fault() && !Refusal::CutShort.is_hosts_fault());
+    assert!(Refusal::DoesNotFit.is_hosts_fault());
 }
