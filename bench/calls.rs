@@ -42,6 +42,27 @@ fn repeated<T>(calls: usize, mut call: impl FnMut() -> T) -> Duration {
     })
 }
 
+/// What follows damage in a capture is passed over, up to its end: in the hostile one each eighth place begins a whole record
+/// whose message has nothing wrong but its check, over all that is left.
+pub fn passed_over(capture: &[u8]) -> Times {
+    let end = || pcp::raw::capture_mended(black_box(capture), 0);
+    let plain = || plain::capture::first_sound(black_box(capture), 1);
+    assert_eq!((end(), plain()), (capture.len(), capture.len()));
+    let ignored = |_: usize| ();
+    compare(101, 1, || timed(|| ignored(end())), || timed(|| ignored(plain())))
+}
+
+pub fn hostile_capture(length: usize) -> Vec<u8> {
+    let mut capture = vec![0x00; length];
+    for at in (1..length - 15).step_by(8) {
+        let count = (length - at - 4).min(0xFFFF) as u16;
+        capture[at..at + 2].copy_from_slice(&[0x4C, 0x3E]);
+        capture[at + 2..at + 4].copy_from_slice(&count.to_be_bytes());
+        capture[at + 4..at + 8].copy_from_slice(&[0xFF, 0xFE, 0x01, 0x13]);
+    }
+    capture
+}
+
 /// All fragments but the last are received, for that one would also have the image checked.
 pub fn fragment_received(size: u16, package: &[u8]) -> Times {
     let messages = fragment_messages(size, package);

@@ -39,6 +39,9 @@ fn main() {
     for (search, times) in calls::searched(SIZE_MIN, &package) {
         print_row(search, &times);
     }
+    println!("what follows damage in a capture of 32 KiB is passed over, ns");
+    print_row("zeros", &calls::passed_over(&vec![0; 32 << 10]));
+    print_row("each eighth place a candidate", &calls::passed_over(&calls::hostile_capture(32 << 10)));
     println!("a whole upgrade, ns for each fragment of {SIZE_PUBLIC} bytes");
     let mut lines = vec![Line::new("library"), Line::new("plain Rust")];
     for (kib, rounds) in [(64, 101), (256, 61), (1 << 10, 41), (4 << 10, 25), (8 << 10, 21), (16 << 10, 15)] {

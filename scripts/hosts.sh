@@ -114,7 +114,7 @@ last_line() {
 # What a Rust program needs so that its calls of the library pass through tests/c/boundary.c; the archive comes after it.
 boundary=(-C linker=gcc -C default-linker-libraries=yes -C link-arg="${sanitizers[0]}" -C link-arg=target/hosts/boundary.o)
 for symbol in check message_check recognise raw_device_{new,receive,next_message,install_finished} \
-    raw_gateway_{start,receive,next_message}; do
+    raw_gateway_{start,receive,next_message} raw_capture_{kind,next,mended,write}; do
     boundary+=(-C "link-arg=-Wl,--wrap=pcp_$symbol")
 done
 

@@ -109,7 +109,7 @@ impl ToGateway {
 }
 
 /// The tests 1 to 7, in their order.
-fn recognise(facts: Facts, message: &[u8]) -> Result<(), u8> {
+pub(crate) fn recognise(facts: Facts, message: &[u8]) -> Result<(), u8> {
     require(facts.supported, number::UNSUPPORTED)?;
     require(facts.pcp, number::OTHER_PROTOCOL)?;
     require(message.starts_with(&START), number::BAD_START)?;

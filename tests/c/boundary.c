@@ -1,12 +1,12 @@
-/* The library as a host in C calls it.  Each call of the differential runner
-   passes through here, to the header's functions, with copies of its buffers:
-   in allocations of exactly their size, then right before memory that cannot
-   be used, then right behind such memory.  A use of a byte outside stops the
-   program; so does a result that depends on the place. */
+/* The library as a host in C calls it.  Each call of the runners differential
+   and captures passes through here, to the headers' functions, with copies of
+   its buffers: in allocations of exactly their size, then right before memory
+   that cannot be used, then right behind such memory.  A use of a byte outside
+   stops the program; so does a result that depends on the place. */
 #define _DEFAULT_SOURCE /* for MAP_ANONYMOUS */
 
 /* Linked with --wrap for each of the archive's symbols: what the runner calls
-   is the function __wrap_ below, and what the header calls is __real_, the
+   is the function __wrap_ below, and what the headers call is __real_, the
    archive's own. */
 #define pcp_check __real_pcp_check
 #define pcp_message_check __real_pcp_message_check
@@ -18,7 +18,11 @@
 #define pcp_raw_gateway_start __real_pcp_raw_gateway_start
 #define pcp_raw_gateway_receive __real_pcp_raw_gateway_receive
 #define pcp_raw_gateway_next_message __real_pcp_raw_gateway_next_message
-#include "pcp.h"
+#define pcp_raw_capture_kind __real_pcp_raw_capture_kind
+#define pcp_raw_capture_next __real_pcp_raw_capture_next
+#define pcp_raw_capture_mended __real_pcp_raw_capture_mended
+#define pcp_raw_capture_write __real_pcp_raw_capture_write
+#include "pcp_capture.h"
 
 #include <stdio.h>
 #include <stdlib.h>
@@ -31,7 +35,7 @@ enum {
 };
 
 /* The buffers that a call may have. */
-enum { RECORD, INPUT, IMAGE, MAP, PACKAGE, REPLY, BUFFERS };
+enum { RECORD, INPUT, IMAGE, MAP, PACKAGE, REPLY, CAPTURE, BUFFERS };
 
 /* Where their copies are. */
 enum { ALLOCATED, BEFORE_GUARD, BEHIND_GUARD, PLACES };
@@ -44,11 +48,12 @@ typedef struct {
 
 typedef struct {
     buffer buffers[BUFFERS];
-    uint8_t supported, pcp, condition, code, checked;
+    uint8_t supported, pcp, condition, code, checked, toward;
     uint16_t size;
+    size_t at;
 } call;
 
-typedef uint32_t function(const call *c, uint8_t *const at[BUFFERS]);
+typedef uint64_t function(const call *c, uint8_t *const at[BUFFERS]);
 
 /* The program is stopped by a signal, on which the runner tells the call. */
 const char *__asan_default_options(void)
@@ -119,10 +124,10 @@ static void give_back(const call *c, uint8_t *const at[BUFFERS])
     }
 }
 
-static uint32_t make(function *f, const call *c)
+static uint64_t make(function *f, const call *c)
 {
     uint8_t *first[BUFFERS] = {NULL}, *at[BUFFERS] = {NULL};
-    uint32_t result;
+    uint64_t result;
 
     for (int i = 0; i < BUFFERS; i++)
         first[i] = copy_to(ALLOCATED, i, &c->buffers[i]);
@@ -188,30 +193,30 @@ static void expect_told(const call *c, uint8_t *const at[BUFFERS],
            "the answer is wrong about the image");
 }
 
-/* The header's functions, on copies.  A buffer passes as two arguments. */
+/* The headers' functions, on copies.  A buffer passes as two arguments. */
 #define COPY(which) at[which], c->buffers[which].length
 
-static uint32_t check(const call *c, uint8_t *const at[BUFFERS])
+static uint64_t check(const call *c, uint8_t *const at[BUFFERS])
 {
     return pcp_check_of_bytes(COPY(INPUT));
 }
 
-static uint32_t message_check(const call *c, uint8_t *const at[BUFFERS])
+static uint64_t message_check(const call *c, uint8_t *const at[BUFFERS])
 {
     return pcp_check_of_message(COPY(INPUT));
 }
 
-static uint32_t recognise(const call *c, uint8_t *const at[BUFFERS])
+static uint64_t recognise(const call *c, uint8_t *const at[BUFFERS])
 {
     return pcp_recognise_message(c->supported, c->pcp, COPY(INPUT));
 }
 
-static uint32_t device_new(const call *c, uint8_t *const at[BUFFERS])
+static uint64_t device_new(const call *c, uint8_t *const at[BUFFERS])
 {
     return pcp_device_new(COPY(RECORD), COPY(INPUT));
 }
 
-static uint32_t device_receive(const call *c, uint8_t *const at[BUFFERS])
+static uint64_t device_receive(const call *c, uint8_t *const at[BUFFERS])
 {
     pcp_answer answer =
         pcp_device_receive(COPY(RECORD), c->supported, c->pcp, c->condition,
@@ -221,25 +226,25 @@ static uint32_t device_receive(const call *c, uint8_t *const at[BUFFERS])
     return packed(answer);
 }
 
-static uint32_t device_next_message(const call *c, uint8_t *const at[BUFFERS])
+static uint64_t device_next_message(const call *c, uint8_t *const at[BUFFERS])
 {
     return packed(pcp_device_next_message(COPY(RECORD), COPY(IMAGE), COPY(MAP),
                                           COPY(REPLY)));
 }
 
-static uint32_t device_install_finished(const call *c,
+static uint64_t device_install_finished(const call *c,
                                         uint8_t *const at[BUFFERS])
 {
     return pcp_device_install_finished(COPY(RECORD), c->code);
 }
 
-static uint32_t gateway_start(const call *c, uint8_t *const at[BUFFERS])
+static uint64_t gateway_start(const call *c, uint8_t *const at[BUFFERS])
 {
     return pcp_gateway_start(COPY(RECORD), COPY(INPUT), c->size, COPY(PACKAGE),
                              c->checked);
 }
 
-static uint32_t gateway_receive(const call *c, uint8_t *const at[BUFFERS])
+static uint64_t gateway_receive(const call *c, uint8_t *const at[BUFFERS])
 {
     pcp_answer answer =
         pcp_gateway_receive(COPY(RECORD), c->supported, c->pcp, COPY(INPUT),
@@ -249,13 +254,80 @@ static uint32_t gateway_receive(const call *c, uint8_t *const at[BUFFERS])
     return packed(answer);
 }
 
-static uint32_t gateway_next_message(const call *c, uint8_t *const at[BUFFERS])
+static uint64_t gateway_next_message(const call *c, uint8_t *const at[BUFFERS])
 {
     return packed(pcp_gateway_next_message(COPY(RECORD), COPY(PACKAGE),
                                            COPY(REPLY)));
 }
 
-/* What the runner calls: as the archive's own symbols, see the header. */
+/* The record of an item stands there: its mark, its length and its message. */
+static int is_record(const call *c, uint8_t *const at[BUFFERS], pcp_item item)
+{
+    const uint8_t *record = at[CAPTURE] + c->at;
+
+    return item.start == c->at + PCP_CAPTURE_HEADER &&
+           item.next == item.start + item.length &&
+           item.next <= c->buffers[CAPTURE].length && record[0] == 0x4C &&
+           record[1] == (item.kind == PCP_ITEM_TO_DEVICE ? 0x3E : 0x3C) &&
+           record[2] * 256u + record[3] == item.length;
+}
+
+/* What an item says of itself is so.  Bytes passed over are at least one. */
+static void expect_item(const call *c, uint8_t *const at[BUFFERS],
+                        pcp_item item, int is_mended)
+{
+    size_t length = c->buffers[CAPTURE].length;
+
+    if (item.kind == PCP_ITEM_TO_DEVICE || item.kind == PCP_ITEM_FROM_DEVICE) {
+        expect(is_record(c, at, item), "the item is no such record");
+        return;
+    }
+    expect(item.start == c->at && item.next == c->at + item.length,
+           "the item is not at its place");
+    if (item.kind == PCP_ITEM_END)
+        expect(c->at >= length && item.length == 0, "this is not the end");
+    else
+        expect(is_mended ? item.length >= 1 && item.next <= length
+                         : item.length == 0,
+               "the item is no such stretch");
+}
+
+static uint64_t capture_kind(const call *c, uint8_t *const at[BUFFERS])
+{
+    pcp_item item = pcp_capture_next(COPY(CAPTURE), c->at);
+
+    expect_item(c, at, item, 0);
+    return item.kind;
+}
+
+static uint64_t capture_next(const call *c, uint8_t *const at[BUFFERS])
+{
+    pcp_item item = pcp_capture_next(COPY(CAPTURE), c->at);
+
+    expect_item(c, at, item, 0);
+    return item.next;
+}
+
+static uint64_t capture_mended(const call *c, uint8_t *const at[BUFFERS])
+{
+    pcp_item item = pcp_capture_mended(COPY(CAPTURE), c->at);
+
+    expect_item(c, at, item, 1);
+    return item.next;
+}
+
+static uint64_t capture_write(const call *c, uint8_t *const at[BUFFERS])
+{
+    size_t record = PCP_CAPTURE_HEADER + c->buffers[INPUT].length;
+    pcp_written written =
+        pcp_capture_write(c->toward, COPY(INPUT), COPY(CAPTURE), c->at);
+
+    expect(written.next == c->at + (written.number == PCP_HANDLED ? record : 0),
+           "the writer is wrong about the next place");
+    return written.number;
+}
+
+/* What the runner calls: as the archive's own symbols, see the headers. */
 
 uint16_t __wrap_pcp_check(const uint8_t *bytes, size_t length)
 {
@@ -307,7 +379,7 @@ uint32_t __wrap_pcp_raw_device_receive(uint8_t *record, size_t record_length,
               .pcp = pcp,
               .condition = condition};
 
-    return make(device_receive, &c);
+    return (uint32_t)make(device_receive, &c);
 }
 
 uint32_t __wrap_pcp_raw_device_next_message(const uint8_t *record,
@@ -321,7 +393,7 @@ uint32_t __wrap_pcp_raw_device_next_message(const uint8_t *record,
               .buffers[MAP] = reads(map, map_length),
               .buffers[REPLY] = writes(reply, reply_length)};
 
-    return make(device_next_message, &c);
+    return (uint32_t)make(device_next_message, &c);
 }
 
 uint8_t __wrap_pcp_raw_device_install_finished(uint8_t *record, size_t record_length,
@@ -359,7 +431,7 @@ uint32_t __wrap_pcp_raw_gateway_receive(uint8_t *record, size_t record_length,
               .supported = supported,
               .pcp = pcp};
 
-    return make(gateway_receive, &c);
+    return (uint32_t)make(gateway_receive, &c);
 }
 
 uint32_t __wrap_pcp_raw_gateway_next_message(const uint8_t *record,
@@ -372,5 +444,41 @@ uint32_t __wrap_pcp_raw_gateway_next_message(const uint8_t *record,
               .buffers[PACKAGE] = reads(package, package_length),
               .buffers[REPLY] = writes(reply, reply_length)};
 
-    return make(gateway_next_message, &c);
+    return (uint32_t)make(gateway_next_message, &c);
+}
+
+uint8_t __wrap_pcp_raw_capture_kind(const uint8_t *capture,
+                                    size_t capture_length, size_t at)
+{
+    call c = {.buffers[CAPTURE] = reads(capture, capture_length), .at = at};
+
+    return (uint8_t)make(capture_kind, &c);
+}
+
+size_t __wrap_pcp_raw_capture_next(const uint8_t *capture,
+                                   size_t capture_length, size_t at)
+{
+    call c = {.buffers[CAPTURE] = reads(capture, capture_length), .at = at};
+
+    return (size_t)make(capture_next, &c);
+}
+
+size_t __wrap_pcp_raw_capture_mended(const uint8_t *capture,
+                                     size_t capture_length, size_t at)
+{
+    call c = {.buffers[CAPTURE] = reads(capture, capture_length), .at = at};
+
+    return (size_t)make(capture_mended, &c);
+}
+
+uint8_t __wrap_pcp_raw_capture_write(uint8_t toward, const uint8_t *message,
+                                     size_t message_length, uint8_t *buffer,
+                                     size_t buffer_length, size_t at)
+{
+    call c = {.buffers[INPUT] = reads(message, message_length),
+              .buffers[CAPTURE] = writes(buffer, buffer_length),
+              .toward = toward,
+              .at = at};
+
+    return (uint8_t)make(capture_write, &c);
 }

@@ -1,10 +1,11 @@
 /* Compares the library, through its header, with a second implementation that
    is written here from 01 and shares no code with it, on published, valid,
    damaged and random messages.  The inputs are the same in every run.  Also
-   tries numbers that only the header's types can hold, and what the header's
-   answers and looks say of record, image and map. */
+   tries numbers that only the header's types can hold, what the header's
+   answers and looks say of record, image and map, and captures through
+   pcp_capture.h. */
 #define _DEFAULT_SOURCE /* for MAP_ANONYMOUS */
-#include "pcp.h"
+#include "pcp_capture.h"
 
 #include <limits.h>
 #include <stdio.h>
@@ -893,6 +894,117 @@ static void try_looks(void)
     compared++;
 }
 
+/* Captures.  The bytes at work: 55, a query toward the device, an empty record
+   from it, 4C, and behind that 55. */
+
+static uint8_t capture[24];
+enum { CAPTURE = 18 }; /* the bytes of it that are read */
+
+/* A record of the first bytes of the message at work; none are lent as NULL. */
+static void try_record(const char *what, int toward, size_t length,
+                       uint8_t *buffer, size_t room, size_t at, unsigned number)
+{
+    const uint8_t *lent = length == 0 ? NULL : message;
+    pcp_written written =
+        pcp_capture_write(toward, lent, length, buffer, room, at);
+    size_t next = number == PCP_HANDLED ? at + 4 + length : at;
+
+    expect(what, number, written.number, message, length);
+    expect(what, 1, written.next == next, message, length);
+    compared++;
+}
+
+static void try_records(void)
+{
+    static const uint8_t bytes[] = {
+        0x55, 0x4C, 0x3E, 0x00, 0x08, 0xFF, 0xFE, 0x01, 0x13, 0x4C, 0x9A, 0x00,
+        0x00, 0x4C, 0x3C, 0x00, 0x00, 0x4C, 0x55, 0x55, 0x55, 0x55, 0x55, 0x55};
+    size_t length = make_from_hex("FFFE01134C9A0000"), room = sizeof capture;
+
+    memset(capture, 0x55, room);
+    capture[17] = 0x4C;
+    try_record("record", 1, length, capture, room, 1, 0);
+    try_record("empty record", 0, 0, capture, room, 13, 0);
+    try_record("one byte short", 1, length, capture, room, 13, 22);
+    try_record("at the end", 1, 0, capture, room, room, 22);
+    try_record("far away", 1, 0, capture, room, SIZE_MAX, 22);
+    try_record("in no buffer", 1, 0, NULL, 0, 0, 22);
+    expect("capture", 0, memcmp(capture, bytes, sizeof bytes) != 0, capture,
+           room);
+    for (size_t i = 0; i < WIDE; i++) { /* any number but 0 is toward */
+        uint8_t written[4];
+
+        try_record("wide direction", wide[i], 0, written, sizeof written, 0, 0);
+        expect("wide direction", 0, memcmp(written, "\x4C\x3E\0\0", 4) != 0,
+               written, sizeof written);
+    }
+}
+
+static void expect_item(const char *what, pcp_item item, unsigned kind,
+                        size_t start, size_t length, size_t next)
+{
+    int is_there =
+        item.start == start && item.length == length && item.next == next;
+
+    expect(what, kind, item.kind, capture, CAPTURE);
+    expect(what, 1, (unsigned)is_there, capture, CAPTURE);
+    compared++;
+}
+
+static void try_items(void)
+{
+    static const struct {
+        size_t at;
+        unsigned kind;
+        size_t start, next, mended;
+    } item[] = {
+        {0, PCP_BAD_MARK, 0, 0, 1},
+        {1, PCP_ITEM_TO_DEVICE, 5, 13, 13},
+        {2, PCP_BAD_MARK, 2, 2, CAPTURE},
+        {13, PCP_ITEM_FROM_DEVICE, 17, 17, 17},
+        {17, PCP_CUT_SHORT, 17, 17, CAPTURE},
+        {CAPTURE, PCP_ITEM_END, CAPTURE, CAPTURE, CAPTURE},
+        {19, PCP_ITEM_END, 19, 19, 19},
+        {SIZE_MAX, PCP_ITEM_END, SIZE_MAX, SIZE_MAX, SIZE_MAX},
+    };
+
+    for (size_t i = 0; i < sizeof item / sizeof item[0]; i++) {
+        size_t at = item[i].at, start = item[i].start;
+
+        expect_item("next", pcp_capture_next(capture, CAPTURE, at),
+                    item[i].kind, start, item[i].next - start, item[i].next);
+        expect_item("mended", pcp_capture_mended(capture, CAPTURE, at),
+                    item[i].kind, start, item[i].mended - start,
+                    item[i].mended);
+    }
+    expect_item("nothing", pcp_capture_next(NULL, 0, 0), 0, 0, 0, 0);
+    expect_item("nothing mended", pcp_capture_mended(NULL, 0, 0), 0, 0, 0, 0);
+}
+
+/* The longest message fills its buffer, right before memory that cannot be
+   used.  A longer one, or a shorter buffer, is refused. */
+static void try_longest_record(void)
+{
+    size_t most = PCP_CAPTURE_MESSAGE_MOST, all = 4 + most;
+    uint8_t *buffer = guard - all, *longer = buffer - 1;
+
+    fill_random(0, most + 1);
+    memset(longer, 0x55, all + 1);
+    try_record("longest, one byte short", 0, most, buffer + 1, all - 1, 0, 22);
+    try_record("longer", 0, most + 1, longer, all + 1, 0, 22);
+    for (size_t i = 0; i <= all; i++)
+        expect("refused record", 0x55, longer[i], message, most);
+    try_record("longest", 0, most, buffer, all, 0, 0);
+    expect("longest record", 0,
+           memcmp(buffer, "\x4C\x3C\xFF\xFF", 4) != 0 ||
+               memcmp(buffer + 4, message, most) != 0,
+           message, most);
+    expect_item("longest", pcp_capture_next(buffer, all, 0),
+                PCP_ITEM_FROM_DEVICE, 4, most, all);
+    expect_item("longest cut", pcp_capture_next(buffer, all - 1, 0),
+                PCP_CUT_SHORT, 0, 0, 0);
+}
+
 int main(void)
 {
     uint8_t *room = mmap(NULL, (size_t)LONGEST + GUARD, PROT_READ | PROT_WRITE,
@@ -920,6 +1032,9 @@ int main(void)
     try_texts();
     try_answers();
     try_looks();
+    try_records();
+    try_items();
+    try_longest_record();
 
     printf("c host: %lu compared, %lu different\n", compared, different);
     return different == 0 ? EXIT_SUCCESS : EXIT_FAILURE;

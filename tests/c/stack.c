@@ -2,9 +2,9 @@
    upgrade with refused calls between.  Each runs on a stack of its own that was
    painted before: the bytes from the caller's frame down to the last that lost
    its paint, arguments included.  Fails if the manual's table states less than
-   was measured, or more than STATED times as much. */
+   was measured, or more than STATED times as much and a little. */
 #define _XOPEN_SOURCE 700 /* for ucontext.h */
-#include "pcp.h"
+#include "pcp_capture.h"
 
 #include <stdio.h>
 #include <stdlib.h>
@@ -13,6 +13,7 @@
 enum { STACK = 1 << 16, PAINT = 0xA5, SIZE = PCP_SIZE_MAX, PACKAGE = 3 * SIZE + 77 };
 
 #define STATED 1.25
+#define LITTLE 64
 
 /* Measuring. */
 
@@ -131,6 +132,27 @@ static void gateway_next_message(void)
                                       sizeof package, reply, reply_room);
 }
 
+/* A capture of what went toward the device, damaged in its first mark. */
+static uint8_t capture[2 * (PCP_CAPTURE_HEADER + PCP_GATEWAY_REPLY)];
+static size_t capture_place;
+
+static void capture_write(void)
+{
+    result = pcp_capture_write(1, to_device, to_device_length, capture,
+                               sizeof capture, capture_place)
+                 .number;
+}
+
+static void capture_next(void)
+{
+    result = pcp_capture_next(capture, sizeof capture, capture_place).kind;
+}
+
+static void capture_mended(void)
+{
+    result = pcp_capture_mended(capture, sizeof capture, capture_place).kind;
+}
+
 enum {
     CHECK,
     MESSAGE_CHECK,
@@ -142,6 +164,9 @@ enum {
     GATEWAY_START,
     GATEWAY_RECEIVE,
     GATEWAY_NEXT,
+    CAPTURE_WRITE,
+    CAPTURE_NEXT,
+    CAPTURE_MENDED,
     CALLS
 };
 
@@ -157,6 +182,9 @@ static measured calls[CALLS] = {
     [GATEWAY_START] = {"pcp_gateway_start", gateway_start, 0},
     [GATEWAY_RECEIVE] = {"pcp_gateway_receive", gateway_receive, 0},
     [GATEWAY_NEXT] = {"pcp_gateway_next_message", gateway_next_message, 0},
+    [CAPTURE_WRITE] = {"pcp_capture_write", capture_write, 0},
+    [CAPTURE_NEXT] = {"pcp_capture_next", capture_next, 0},
+    [CAPTURE_MENDED] = {"pcp_capture_mended", capture_mended, 0},
 };
 
 /* The upgrade. */
@@ -171,6 +199,22 @@ static void take_to_gateway(void)
     memcpy(to_gateway, reply, to_gateway_length = answer.length);
 }
 
+/* Writes the record, and reads it in its place, from a damaged byte before it,
+   and where there is no room. */
+static void capture_to_device(void)
+{
+    capture[0] = 0;
+    for (size_t place = 0; place < 2; place++) {
+        capture_place = 1;
+        measure(&calls[CAPTURE_WRITE]);
+        capture_place = place;
+        measure(&calls[CAPTURE_NEXT]);
+        measure(&calls[CAPTURE_MENDED]);
+    }
+    capture_place = sizeof capture;
+    measure(&calls[CAPTURE_WRITE]);
+}
+
 /* Also with a short reply buffer, a condition that refuses, and a damaged
    byte; that last changes no record, for a damaged message is refused. */
 static void give_to_device(void)
@@ -178,6 +222,7 @@ static void give_to_device(void)
     measure(&calls[CHECK]);
     measure(&calls[MESSAGE_CHECK]);
     measure(&calls[RECOGNISE]);
+    capture_to_device();
     reply_room = 0;
     measure(&calls[DEVICE_RECEIVE]);
     reply_room = sizeof reply;
@@ -265,7 +310,8 @@ static int compare(const char *manual)
     for (int i = 0; i < CALLS; i++) {
         size_t stated = stated_in(manual, calls[i].name);
         int holds = stated >= calls[i].most &&
-                    (double)stated <= STATED * (double)calls[i].most;
+                    (double)stated <=
+                        STATED * (double)calls[i].most + LITTLE;
 
         printf("stack: %s takes %lu bytes, the manual says %lu%s\n",
                calls[i].name, (unsigned long)calls[i].most,

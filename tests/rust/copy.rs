@@ -143,3 +143,39 @@ pub unsafe extern "C" fn pcp_raw_gateway_next_message(
         from_raw_parts_mut(reply, reply_length),
     )
 }
+
+#[no_mangle]
+pub unsafe extern "C" fn pcp_raw_capture_kind(capture: *const u8, capture_length: usize, at: usize) -> u8 {
+    Reading.capture_kind(from_raw_parts(capture, capture_length), at)
+}
+
+#[no_mangle]
+pub unsafe extern "C" fn pcp_raw_capture_next(capture: *const u8, capture_length: usize, at: usize) -> usize {
+    Reading.capture_next(from_raw_parts(capture, capture_length), at)
+}
+
+#[no_mangle]
+pub unsafe extern "C" fn pcp_raw_capture_mended(
+    capture: *const u8,
+    capture_length: usize,
+    at: usize,
+) -> usize {
+    Reading.capture_mended(from_raw_parts(capture, capture_length), at)
+}
+
+#[no_mangle]
+pub unsafe extern "C" fn pcp_raw_capture_write(
+    toward: u8,
+    message: *const u8,
+    message_length: usize,
+    buffer: *mut u8,
+    buffer_length: usize,
+    at: usize,
+) -> u8 {
+    Reading.capture_write(
+        toward,
+        from_raw_parts(message, message_length),
+        from_raw_parts_mut(buffer, buffer_length),
+        at,
+    )
+}

@@ -6,12 +6,13 @@ mod calls;
 mod reading;
 mod support;
 
-use calls::comparison::{watch, Comparison};
+use calls::comparison::Comparison;
 use calls::coverage::Coverage;
 use calls::run::{Run, Scale};
 use calls::texts;
 use std::{env, process};
 use support::random::Random;
+use support::signals::watch;
 
 const DEFAULT_SEED: u64 = 1;
 const DEFAULT_CALLS: u64 = 1_200_000;

@@ -3,7 +3,7 @@
 mod reading;
 mod support;
 
-use reading::capture::{Item, Reader};
+use reading::capture::{mend, write, Item, Mended, Reader};
 use reading::check::{check, message_check, step, TABLE};
 use reading::device::{self, Device, BUSY, INTERNAL, LOW_POWER, READY, WEAK_SIGNAL};
 use reading::gateway::{self, cut, Gateway};
@@ -727,6 +727,128 @@ fn reader(tally: &mut Tally) {
     }
 }
 
+/// Each row: whether toward the device, the message, buffer and place; then number, next place and buffer.
+fn writer(tally: &mut Tally) {
+    for (toward_device, message, before, place, number, next, after) in [
+        (true, "AABB", "000000000000", 0, 0, 6, "4C3E0002AABB"),
+        (false, "AABB", "000000000000", 0, 0, 6, "4C3C0002AABB"),
+        (true, "", "11111111", 0, 0, 4, "4C3E0000"),
+        // The bytes before and behind stay.
+        (false, "55", "11111111111111", 1, 0, 6, "114C3C00015511"),
+        (true, "", "1111111111", 1, 0, 5, "114C3E0000"),
+        // No room: one byte short, none for the header, at the end, past it.
+        (true, "AABB", "1111111111", 0, 22, 0, "1111111111"),
+        (true, "AABB", "111111111111", 1, 22, 1, "111111111111"),
+        (false, "", "111111", 0, 22, 0, "111111"),
+        (true, "", "", 0, 22, 0, ""),
+        (true, "", "11111111", 4, 22, 4, "11111111"),
+        (true, "", "11111111", 5, 22, 5, "11111111"),
+        (true, "", "11111111", usize::MAX, 22, usize::MAX, "11111111"),
+        (false, "AABB", "11111111", usize::MAX - 3, 22, usize::MAX - 3, "11111111"),
+    ] {
+        let mut buffer = bytes(before);
+        let wrote = write(toward_device, &bytes(message), &mut buffer, place);
+        let what = format!("{message} at {place} of {before}");
+        tally.same(&what, (wrote, buffer), ((number, next), bytes(after)));
+    }
+    for (length, room, number) in [
+        (256, 260, 0),
+        (65_535, 65_539, 0),
+        (65_535, 65_538, 22),
+        (65_536, 65_540, 22),
+        (65_536, 80_000, 22),
+        (131_071, 140_000, 22),
+    ] {
+        let message = vec![0xAA; length];
+        let mut expected = vec![0x11; room];
+        if number == 0 {
+            expected[..4].copy_from_slice(&[0x4C, 0x3C, (length / 256) as u8, (length % 256) as u8]);
+            expected[4..4 + length].copy_from_slice(&message);
+        }
+        let mut buffer = vec![0x11; room];
+        let next = if number == 0 { 4 + length } else { 0 };
+        tally.same("a long message", write(false, &message, &mut buffer, 0), (number, next));
+        tally.same("a long record", buffer == expected, true);
+    }
+}
+
+/// A query toward the device, and a download result from it.
+const QUERY_RECORD: &str = "4C3E0008 FFFE01134C9A0000";
+const RESULT_RECORD: &str = "4C3C0009 FFFE0116850E000100";
+
+/// Each row: a capture, with {Q} and {R} for those records; what is left of it; a line for each stretch.
+fn mending(tally: &mut Tally) {
+    for (capture, mended, lines) in [
+        ("", "", ""),
+        ("{Q}{R}{Q}", "{Q}{R}{Q}", ""),
+        // Ordinary walking does not test messages.
+        ("4C3E0002AABB {Q}", "4C3E0002AABB {Q}", ""),
+        ("4C3E0008 FFFE01134C9B0000 4C3C0000", "4C3E0008 FFFE01134C9B0000 4C3C0000", ""),
+        // Nothing to go on from.
+        ("4C", "", "0 1\n"),
+        ("4C3D", "", "0 2\n"),
+        ("00 4C3E0000 4C3C0002AABB", "", "0 11\n"),
+        ("{Q}4C", "{Q}", "12 1\n"),
+        ("{Q}4C3E00", "{Q}", "12 3\n"),
+        ("{Q}4C3E0008 FFFE01134C9A00", "{Q}", "12 11\n"),
+        // Each direction, and a record that has lost its first byte.
+        ("00 {Q}", "{Q}", "0 1\n"),
+        ("00 {R}{Q}", "{R}{Q}", "0 1\n"),
+        ("{R}3E0008FFFE01134C9A0000 {Q}", "{R}{Q}", "13 11\n"),
+        ("{Q}4C3D0000 {R}", "{Q}{R}", "12 4\n"),
+        // Cut short at first, and a record within.
+        ("4C3EFFFF {Q}", "{Q}", "0 4\n"),
+        ("4C3CFFFF 4C3EFFFF {R}", "{R}", "0 8\n"),
+        // Whole records whose messages are refused with 3, 4, 5, 6 and 7 are passed over.
+        ("00 4C3E0000 {Q}", "{Q}", "0 5\n"),
+        ("00 4C3E0003FFFE02 {Q}", "{Q}", "0 8\n"),
+        ("00 4C3C0004FFFE0112 {Q}", "{Q}", "0 9\n"),
+        ("00 4C3E0004FFFE0113 {Q}", "{Q}", "0 9\n"),
+        ("00 4C3E0008 FFFE01134C9B0000 {Q}", "{Q}", "0 13\n"),
+        ("00 4C3E0009 FFFE011322BF000000 {R}", "{R}", "0 14\n"),
+        // Bad data passes the tests 1 to 7, and so do reserved bits.
+        ("00 4C3E0009 FFFE011320BF000130", "4C3E0009 FFFE011320BF000130", "0 1\n"),
+        ("00 4C3E0008 FFFEF113BD920000", "4C3E0008 FFFEF113BD920000", "0 1\n"),
+        // Behind the record found, ordinary walking goes on.
+        ("00 {Q}4C3E0000 4C3C0002AABB", "{Q}4C3E0000 4C3C0002AABB", "0 1\n"),
+        // Candidates within others: the first that is good counts, and what stands inside it is its message.
+        ("00 4C3E000E 0000 {Q}", "{Q}", "0 7\n"),
+        ("4C3D000C {Q}{R}", "{Q}{R}", "0 4\n"),
+        ("4C3E000C {Q}", "4C3E000C {Q}", ""),
+        // A record that reaches into the next: what is left of that is passed over.
+        ("4C3E0009 FFFE01134C9A0000 {Q}{R}", "4C3E0009 FFFE01134C9A0000 4C {R}", "13 11\n"),
+        // Two stretches and more, each where it falls.
+        ("00 {Q}0000 {R}4C", "{Q}{R}", "0 1\n13 2\n28 1\n"),
+    ] {
+        let written_out = |row: &str| bytes(&row.replace("{Q}", QUERY_RECORD).replace("{R}", RESULT_RECORD));
+        let found = mend(&written_out(capture));
+        tally.same(capture, found, (written_out(mended), lines.to_string()));
+    }
+    let capture = bytes("4C3E0001AA 4C3C00");
+    let mut reader = Reader::new(&capture);
+    let first = Mended::Record { toward_device: true, message: &[0xAA] };
+    tally.same("a record", (reader.next_mended(), reader.place), (first, 5));
+    let passed = Mended::Passed { start: 5, length: 3 };
+    tally.same("a stretch", (reader.next_mended(), reader.place), (passed, 8));
+    for _ in 0..2 {
+        tally.same("the end", (reader.next_mended(), reader.place), (Mended::End, 8));
+    }
+    for place in [8, 9, usize::MAX] {
+        let mut reader = Reader::at(&capture, place);
+        tally.same("past the end", (reader.next_record(), reader.place), (Item::End, place));
+        tally.same("past the end", (reader.next_mended(), reader.place), (Mended::End, place));
+    }
+    let whole = captures::full_download(SAMPLE_SEED);
+    tally.same("without damage", mend(&whole), (whole.clone(), String::new()));
+    for (damaged, line) in [(captures::damaged(), "46 31\n"), (captures::cut(), "46 26\n")] {
+        let (mended, lines) = mend(&damaged);
+        tally.same("a damaged sample", lines.as_str(), line);
+        tally.same("mended again", mend(&mended), (mended.clone(), String::new()));
+    }
+    tally.same("too long", mend(&vec![0; 32_769]), (Vec::new(), "21\n".to_string()));
+    tally.same("as long as can be", mend(&vec![0; 32_768]), (Vec::new(), "0 32768\n".to_string()));
+}
+
 const FOUR_LINES: &str = "\
 0 0 0 FFFE01138DE300110056302E39000000000000000000000000
 1 0 1 FFFE0114D768000100
@@ -779,6 +901,8 @@ fn main() {
     gateway_refusals(&mut tally);
     clean_run(&mut tally);
     reader(&mut tally);
+    writer(&mut tally);
+    mending(&mut tally);
     replays(&mut tally);
     println!("reading: {} compared, {} different", tally.compared, tally.different);
     process::exit(i32::from(tally.different > 0));

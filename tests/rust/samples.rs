@@ -1,8 +1,10 @@
-//! Writes the sample captures and what the replay program prints for them into a folder.
+//! Writes the sample captures and what the replay program prints for them into a folder; of one that is damaged in several
+//! places also what the mend program writes, and tells.
 
 mod reading;
 mod support;
 
+use reading::capture::mend;
 use reading::replay::replay;
 use std::path::Path;
 use std::{env, fs, io, process};
@@ -23,11 +25,17 @@ fn samples() -> [(&'static str, Vec<u8>); 8] {
 
 fn write_samples(folder: &Path) -> io::Result<()> {
     fs::create_dir_all(folder)?;
+    let write = |name: &str, kind: &str, bytes: &[u8]| fs::write(folder.join(format!("{name}.{kind}")), bytes);
     for (name, capture) in samples() {
-        fs::write(folder.join(format!("{}.capture", name)), &capture)?;
-        fs::write(folder.join(format!("{}.expected", name)), replay(&capture))?;
+        write(name, "capture", &capture)?;
+        write(name, "expected", replay(&capture).as_bytes())?;
     }
-    Ok(())
+    let (name, capture) = ("three-damages", captures::damaged_in_three_places());
+    let (mended, told) = mend(&capture);
+    write(name, "capture", &capture)?;
+    write(name, "expected", replay(&capture).as_bytes())?;
+    write(name, "mended", &mended)?;
+    write(name, "told", told.as_bytes())
 }
 
 fn main() {

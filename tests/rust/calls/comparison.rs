@@ -7,9 +7,8 @@ use super::wrapper::Wrapper;
 use super::{Call, Lent, Memory};
 use crate::reading::boundary::{Boundary, Reading};
 use crate::reading::replay::hex;
+use crate::support::signals::Work;
 use std::fmt::Write;
-use std::sync::atomic::{AtomicPtr, Ordering};
-use std::{process, ptr};
 
 /// The call at work, and where it stands among all.
 pub struct Comparison {
@@ -82,17 +81,6 @@ impl Comparison {
         }
     }
 
-    /// The call with all that it was given.
-    fn described(&self) -> String {
-        let Comparison { seed, run, calls, call, lent, before, .. } = self;
-        let mut text = format!("seed {seed}, run {run}, call {calls}: {call:?}\nlent: {lent:?}\n");
-        for (name, bytes) in before.buffers() {
-            writeln!(text, "{name} ({} bytes): {}", bytes.len(), hex(bytes))
-                .expect("a string takes any text");
-        }
-        text
-    }
-
     fn differences(&self, side: &str, got: u32, expected: u32, reading: &Memory) -> String {
         let shown = |result: u32| format!("number {}, reply of {}", result % 256, result / 256);
         let mut text = format!("{side}: {}\nreading: {}\n", shown(got), shown(expected));
@@ -107,30 +95,14 @@ impl Comparison {
     }
 }
 
-/// The comparison to describe when a signal ends the program.
-static AT_WORK: AtomicPtr<Comparison> = AtomicPtr::new(ptr::null_mut());
-
-extern "C" {
-    fn signal(number: i32, handler: extern "C" fn(i32)) -> usize;
-    fn _exit(status: i32) -> !;
-}
-
-/// SIGILL, SIGABRT, SIGBUS, SIGFPE, SIGSEGV
-const FATAL: [i32; 5] = [4, 6, 7, 8, 11];
-
-/// From here on, a call that ends the program by a signal is described. The library holds no lock and no heap that
-/// describing would need.
-pub fn watch(comparison: &mut Comparison) {
-    AT_WORK.store(comparison, Ordering::SeqCst);
-    for number in FATAL {
-        unsafe { signal(number, describe_call_at_work) };
+impl Work for Comparison {
+    fn described(&self) -> String {
+        let Comparison { seed, run, calls, call, lent, before, .. } = self;
+        let mut text = format!("seed {seed}, run {run}, call {calls}: {call:?}\nlent: {lent:?}\n");
+        for (name, bytes) in before.buffers() {
+            writeln!(text, "{name} ({} bytes): {}", bytes.len(), hex(bytes))
+                .expect("a string takes any text");
+        }
+        text
     }
-}
-
-extern "C" fn describe_call_at_work(number: i32) {
-    match unsafe { AT_WORK.swap(ptr::null_mut(), Ordering::SeqCst).as_ref() } {
-        Some(comparison) => println!("{}library: signal {number}", comparison.described()),
-        None => process::abort(),
-    }
-    unsafe { _exit(1) }
 }

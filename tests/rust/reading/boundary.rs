@@ -1,6 +1,7 @@
 //! The functions that a host calls, over the bytes that it lends: the records' layouts before and after 01's calls.
 //! A refused call writes nothing, but for the phase with 23.
 
+use super::capture::{write, Item, Reader};
 use super::check::{check, message_check};
 use super::device::Device;
 use super::gateway::Gateway;
@@ -111,6 +112,39 @@ impl Boundary for Reading {
     fn gateway_next_message(&self, record: &[u8], package: &[u8], reply: &mut [u8]) -> u32 {
         let answer = read_gateway(record).map(|gateway| gateway.next_message(package, reply.len()));
         given(answer.unwrap_or_else(refused), reply)
+    }
+}
+
+/// The exported functions for captures.
+impl Reading {
+    /// What stands at a place: 0 the end, 1 a record toward the device, 2 one from it; or 20, 21.
+    pub fn capture_kind(&self, capture: &[u8], at: usize) -> u8 {
+        match Reader::at(capture, at).next_record() {
+            Item::End => 0,
+            Item::Record { toward_device: true, .. } => 1,
+            Item::Record { toward_device: false, .. } => 2,
+            Item::Fault(number) => number,
+        }
+    }
+
+    /// The reader's next place.
+    pub fn capture_next(&self, capture: &[u8], at: usize) -> usize {
+        let mut reader = Reader::at(capture, at);
+        reader.next_record();
+        reader.place
+    }
+
+    /// The mending reader's next place.
+    pub fn capture_mended(&self, capture: &[u8], at: usize) -> usize {
+        let mut reader = Reader::at(capture, at);
+        reader.next_mended();
+        reader.place
+    }
+
+    /// Toward the device unless the byte is 0.
+    pub fn capture_write(&self, toward: u8, message: &[u8], buffer: &mut [u8], at: usize) -> u8 {
+        let (number, _) = write(toward != 0, message, buffer, at);
+        number
     }
 }
 

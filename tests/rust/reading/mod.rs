@@ -37,6 +37,7 @@ pub mod number {
     pub const PACKAGE: u8 = 19;
     pub const MARK: u8 = 20;
     pub const CUT_SHORT: u8 = 21;
+    pub const DOES_NOT_FIT: u8 = 22;
     pub const REPEAT_DIFFERS: u8 = 23;
     pub const RECORD: u8 = 29;
 }

@@ -5,7 +5,7 @@ use super::messages::{
 };
 use super::random::Random;
 use super::version;
-use crate::reading::capture::{FROM_DEVICE, TOWARD_DEVICE};
+use crate::reading::capture::{Item, Reader, FROM_DEVICE, TOWARD_DEVICE};
 use crate::reading::device::{is_stored, Device, READY};
 use crate::reading::gateway::Gateway;
 use crate::reading::message::{encode, ToGateway, BOTH_FACTS, DEVICE_ROOM, GATEWAY_ROOM, SIZES};
@@ -288,4 +288,27 @@ pub fn cut() -> Vec<u8> {
     let mut capture = all_toward_device(&messages[..3]);
     capture.truncate(capture.len() - 5);
     capture
+}
+
+/// A download whose capture was damaged in three places: a mark, the length of a later record, which then reaches past the
+/// end, and the end, which is missing.
+pub fn damaged_in_three_places() -> Vec<u8> {
+    let mut capture = full_download(SAMPLE_SEED);
+    let places = record_places(&capture);
+    capture[places[4]] = 0x00;
+    capture[places[20] + 2] = 0xFF;
+    capture.truncate(capture.len() - 3);
+    capture
+}
+
+/// Where the records of a capture without damage begin.
+fn record_places(capture: &[u8]) -> Vec<usize> {
+    let mut reader = Reader::new(capture);
+    let mut places = Vec::new();
+    loop {
+        places.push(reader.place);
+        if !matches!(reader.next_record(), Item::Record { .. }) {
+            return places;
+        }
+    }
 }

@@ -74,7 +74,7 @@ fn add_samples(cases: &mut Cases) {
 }
 
 /// A capture of both directions, short enough to be cut at every byte.
-fn short_download() -> Vec<u8> {
+pub fn short_download() -> Vec<u8> {
     let package = captures::package(5, 2 * 32 + 9);
     let mut server = Server::new("V1.0", 32, &package, true);
     let mut session = Session::new(2);
@@ -153,7 +153,7 @@ fn add_marks(cases: &mut Cases) {
     }
 }
 
-fn with_byte(capture: &[u8], place: usize, value: u8) -> Vec<u8> {
+pub fn with_byte(capture: &[u8], place: usize, value: u8) -> Vec<u8> {
     let mut changed = capture.to_vec();
     changed[place] = value;
     changed
@@ -404,7 +404,7 @@ fn add_random_captures(cases: &mut Cases, random: &mut Random) {
     }
 }
 
-fn random_capture(random: &mut Random) -> Vec<u8> {
+pub fn random_capture(random: &mut Random) -> Vec<u8> {
     let mut session = Session::new(random.draw());
     let package = small_random_package(random);
     let records = random.between(1..=80);

@@ -1,4 +1,4 @@
-//! What the test programs share: random numbers, messages, captures, inputs of the replay program.
+//! What the test programs share: random numbers, messages, captures, inputs of the replay program, signals.
 
 // Each test program uses a part of it.
 #![allow(dead_code)]
@@ -7,6 +7,7 @@ pub mod captures;
 pub mod inputs;
 pub mod messages;
 pub mod random;
+pub mod signals;
 
 use crate::reading::message::Version;
 

@@ -1,9 +1,10 @@
-//! `replay_check PROGRAM [SEED]` runs the replay program on many inputs over a pipe and compares what it prints with
-//! the reading.
+//! `program_check NAME PROGRAM [SEED]` runs the program of this name, replay or mend, on many inputs over a pipe and compares
+//! what it writes to standard output and standard error with the reading.
 
 mod reading;
 mod support;
 
+use reading::capture::mend;
 use reading::replay::{hex, replay};
 use std::ffi::{OsStr, OsString};
 use std::io::{self, Write};
@@ -16,9 +17,30 @@ use support::inputs::{all_cases, not_reached, Case};
 
 const DEFAULT_SEED: u64 = 1;
 
+/// What a program writes for an input: to standard output, and to standard error.
+type Expected = fn(&[u8]) -> (Vec<u8>, String);
+
+fn expected_of(name: &OsStr) -> Option<Expected> {
+    match name.to_str()? {
+        "replay" => Some(|input| (replay(input).into_bytes(), String::new())),
+        "mend" => Some(mend),
+        _ => None,
+    }
+}
+
+/// Both in one text, for people; what is no text as hex.
+fn shown(output: &[u8], told: &[u8]) -> String {
+    let output = String::from_utf8(output.to_vec()).unwrap_or_else(|_| hex(output) + "\n");
+    output + &String::from_utf8_lossy(told)
+}
+
 /// Runs the program on one input.
 fn run(program: &OsStr, case: &Case) -> io::Result<Output> {
-    let mut child = Command::new(program).stdin(Stdio::piped()).stdout(Stdio::piped()).spawn()?;
+    let mut child = Command::new(program)
+        .stdin(Stdio::piped())
+        .stdout(Stdio::piped())
+        .stderr(Stdio::piped())
+        .spawn()?;
     let stdin = child.stdin.take().expect("the child's input is a pipe");
     thread::scope(|scope| {
         scope.spawn(|| feed(stdin, case));
@@ -47,13 +69,13 @@ struct Difference {
 }
 
 /// Runs all cases on a few threads; the differences are in the order of the cases.
-fn compare(program: &OsStr, cases: &[Case]) -> io::Result<Vec<Difference>> {
+fn compare(program: &OsStr, expected: Expected, cases: &[Case]) -> io::Result<Vec<Difference>> {
     let next = AtomicUsize::new(0);
     let found = Mutex::new(Vec::new());
     let workers = thread::available_parallelism().map_or(2, |count| count.get());
     thread::scope(|scope| {
         let workers: Vec<_> =
-            (0..workers).map(|_| scope.spawn(|| work(program, cases, &next, &found))).collect();
+            (0..workers).map(|_| scope.spawn(|| work(program, expected, cases, &next, &found))).collect();
         workers.into_iter().try_for_each(|worker| worker.join().expect("a worker does not panic"))
     })?;
     let mut differences = found.into_inner().expect("a worker does not panic");
@@ -63,6 +85,7 @@ fn compare(program: &OsStr, cases: &[Case]) -> io::Result<Vec<Difference>> {
 
 fn work(
     program: &OsStr,
+    expected: Expected,
     cases: &[Case],
     next: &AtomicUsize,
     found: &Mutex<Vec<Difference>>,
@@ -74,15 +97,16 @@ fn work(
             None => return Ok(()),
         };
         let output = run(program, case)?;
-        let expected = replay(&case.input);
-        if output.stdout != expected.as_bytes() || output.status.code().is_none() {
-            let mut printed = String::from_utf8_lossy(&output.stdout).into_owned();
-            if output.status.code().is_none() {
+        let (written, told) = expected(&case.input);
+        let ended = output.status.code().is_some();
+        if output.stdout != written || output.stderr != told.as_bytes() || !ended {
+            let mut printed = shown(&output.stdout, &output.stderr);
+            if !ended {
                 printed.push_str("(ended by a signal)\n");
             }
             found.lock().expect("a worker does not panic").push(Difference {
                 case: number,
-                expected,
+                expected: shown(&written, told.as_bytes()),
                 printed,
             });
         }
@@ -95,7 +119,7 @@ fn show(case: &Case, difference: &Difference) -> io::Result<()> {
     let (expected, printed) = (&difference.expected, &difference.printed);
     println!("input {}: {}", difference.case, case.name);
     for (name, text) in [("hex", &hex(&case.input)), ("expected", expected), ("printed", printed)] {
-        let path = folder.join(format!("replay-difference.{}", name));
+        let path = folder.join(format!("program-difference.{}", name));
         fs::write(&path, text)?;
         println!("see {}", path.display());
     }
@@ -121,36 +145,40 @@ fn some_lines(text: &str, first: usize) -> String {
     }
 }
 
-/// The program and the seed.
-fn arguments() -> Option<(OsString, u64)> {
+/// The program's name, the program and the seed.
+fn arguments() -> Option<(OsString, OsString, u64)> {
     let mut arguments = env::args_os().skip(1);
+    let name = arguments.next()?;
     let program = arguments.next()?;
     let seed = match arguments.next() {
         Some(seed) => seed.to_str()?.parse().ok()?,
         None => DEFAULT_SEED,
     };
-    Some((program, seed))
+    Some((name, program, seed))
 }
 
 fn main() -> io::Result<()> {
-    let (program, seed) = arguments().unwrap_or_else(|| {
-        eprintln!("usage: replay_check PROGRAM [SEED]");
-        process::exit(2);
-    });
+    let wrong = || -> ! {
+        eprintln!("usage: program_check replay|mend PROGRAM [SEED]");
+        process::exit(2)
+    };
+    let (name, program, seed) = arguments().unwrap_or_else(|| wrong());
+    let expected = expected_of(&name).unwrap_or_else(|| wrong());
+    let name = name.to_string_lossy();
     let cases = all_cases(seed);
     let missing = not_reached(&cases);
     if !missing.is_empty() {
-        println!("replay: no input brings {}", missing.join(", "));
+        println!("{name}: no input brings {}", missing.join(", "));
         process::exit(1);
     }
-    let differences = compare(&program, &cases).unwrap_or_else(|error| {
-        eprintln!("replay_check: {}: {}", program.to_string_lossy(), error);
+    let differences = compare(&program, expected, &cases).unwrap_or_else(|error| {
+        eprintln!("program_check: {}: {}", program.to_string_lossy(), error);
         process::exit(2);
     });
     if let Some(first) = differences.first() {
         println!("seed {}", seed);
         show(&cases[first.case], first)?;
     }
-    println!("replay: {} compared, {} different", cases.len(), differences.len());
+    println!("{name}: {} compared, {} different", cases.len(), differences.len());
     process::exit(i32::from(!differences.is_empty()));
 }
