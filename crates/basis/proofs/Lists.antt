@@ -6,14 +6,14 @@ use native.Mathlib.Decide.{decLe}
 use native.Mathlib.Omega.{arith}
 use mathlib.Core.Path.{_≡_, refl, sym, _∙_, ap, ap₂}
 use mathlib.Core.Bool.{Bool, true, false, false≢true, true≢false}
-use mathlib.Core.List.{List, [], _∷_, _++_, append-assoc}
+use mathlib.Core.List.{List, [], _∷_, _++_, append-assoc, append-nil}
 use lib.Dec.{eqb}
 use lib.ListN.{length, take, drop, getD, set, length-append, length-take, length-drop, length-set, take-append-drop, drop-of-length-le, replicate}
 use lib.ListN.{List·getD-eq-default}
 use lib.Seq.{drop-cons, take-at, drop-at, drop-append-add, drop-drop, take-all, length-take-le, getD-drop, take-length, set-append-left}
 use borrow.Author.Tests.{eqb-true, eq-eqb, ne-eqb}
 use Rattle.basis.specs.Choice.{oneOf}
-use Rattle.basis.specs.Bytes.{Bytes, wordAt, part, same, over, patched}
+use Rattle.basis.specs.Bytes.{Bytes, wordAt, wordBytes, dwordAt, dwordBytes, qwordAt, qwordBytes, part, same, over, patched}
 use Rattle.basis.proofs.Choosing.{and-left, and-right, and-both}
 
 -- ---- numbers
@@ -88,6 +88,19 @@ part-none xs at (suc n) h =
     let k : length xs ≤ suc at = omega arith in
     ap₂ _∷_ (List·getD-eq-default xs 0 {n = at} h) (part-none xs (suc at) n k)
 
+-- a part is what is there, filled up with zeros
+pub part-filled : (xs : List ℕ) (at n : ℕ) → part xs at n ≡ over (take n (drop at xs)) (replicate n 0)
+unfolding part over
+part-filled xs at zero = refl
+part-filled xs at (suc n) = go (decLe (length xs) at) (part-filled xs (suc at) n)
+  where
+    go : Dec (length xs ≤ at) → part xs (suc at) n ≡ over (take n (drop (suc at) xs)) (replicate n 0)
+        → part xs at (suc n) ≡ over (take (suc n) (drop at xs)) (replicate (suc n) 0)
+    go (yes h) rest = rw (drop-of-length-le xs h) (part-none xs at (suc n) h)
+    go (no h) rest =
+        let k : at < length xs = omega arith in
+        rw (drop-cons xs at 0) (ap (λ (l : List ℕ). getD xs at 0 ∷ l) rest)
+
 -- two parts, one behind the other, and one element more
 pub part-add : (xs : List ℕ) (at n k : ℕ) → part xs at (n + k) ≡ part xs at n ++ part xs (at + n) k
 unfolding part
@@ -103,6 +116,10 @@ pub part-drop : (k : ℕ) (xs : List ℕ) (at n : ℕ) → part (drop k xs) at n
 unfolding part
 part-drop k xs at zero = refl
 part-drop k xs at (suc n) = ap₂ _∷_ (getD-drop k xs at 0) (part-drop k xs (suc at) n ∙ rw (add-suc k at))
+
+-- what stands at the front, and the whole
+pub part-front : (xs ys : List ℕ) (n : ℕ) → length xs ≡ n → part (xs ++ ys) 0 n ≡ xs
+part-front xs ys n e = part-within (xs ++ ys) 0 n (simp length-append (omega arith)) ∙ take-at xs ys n e
 
 pub part-whole : (xs : List ℕ) → part xs 0 (length xs) ≡ xs
 part-whole xs = part-within xs 0 (length xs) (omega arith) ∙ take-length xs
@@ -156,13 +173,24 @@ stretched xs start count from n p q =
     let l : from + n - from ≡ min (length (drop start xs)) count = simp length-drop (omega arith) in
     rw (drop-least xs start from (omega arith)) (take-least (drop start xs) count (from + n - from) l)
 
--- ---- WORDs
+-- ---- WORDs, DWORDs, QWORDs
 
 -- past the end
 pub word-none : (xs : List ℕ) (at : ℕ) → length xs ≤ at → wordAt xs at ≡ 0
 word-none xs at h =
     let k : length xs ≤ at + 1 = omega arith in
     rw (List·getD-eq-default xs 0 {n = at} h, List·getD-eq-default xs 0 {n = at + 1} k)
+
+pub dword-none : (xs : List ℕ) (at : ℕ) → length xs ≤ at → dwordAt xs at ≡ 0
+dword-none xs at h =
+    let k : length xs ≤ at + 2 = omega arith in
+    rw (word-none xs at h, word-none xs (at + 2) k)
+
+pub qword-none : (xs : List ℕ) (at : ℕ) → length xs ≤ at → qwordAt xs at ≡ 0
+unfolding qwordAt
+qword-none xs at h =
+    let k : length xs ≤ at + 4 = omega arith in
+    rw (dword-none xs at h, dword-none xs (at + 4) k)
 
 module _ (xs : List ℕ) (at : ℕ) (h : Bytes xs) where
   pub word-high : wordAt xs at / 256 ≡ getD xs at 0
@@ -176,6 +204,78 @@ module _ (xs : List ℕ) (at : ℕ) (h : Bytes xs) where
   word-low =
       let q : getD xs (at + 1) 0 < 256 = h (at + 1) in
       omega arith
+
+-- every number of some bytes: its range, and the bytes that it stands for
+module _ (xs : List ℕ) (h : Bytes xs) where
+  pub word-below : (at : ℕ) → wordAt xs at < 65536
+  unfolding Bytes
+  word-below at =
+      let high : getD xs at 0 < 256 = h at in
+      let low : getD xs (at + 1) 0 < 256 = h (at + 1) in
+      omega arith
+
+  pub word-part : (at : ℕ) → wordBytes (wordAt xs at) ≡ part xs at 2
+  unfolding part
+  word-part at =
+      ap₂ (λ (x y : ℕ). x ∷ y ∷ []) (word-high xs at h) (word-low xs at h ∙ ap (λ (i : ℕ). getD xs i 0) (add-one at))
+
+  pub dword-below : (at : ℕ) → dwordAt xs at < 4294967296
+  dword-below at =
+      let high : wordAt xs at < 65536 = word-below at in
+      let low : wordAt xs (at + 2) < 65536 = word-below (at + 2) in
+      omega arith
+
+  pub dword-part : (at : ℕ) → dwordBytes (dwordAt xs at) ≡ part xs at 4
+  dword-part at =
+      let low : wordAt xs (at + 2) < 65536 = word-below (at + 2) in
+      let p : dwordAt xs at / 65536 ≡ wordAt xs at = omega arith in
+      let q : dwordAt xs at % 65536 ≡ wordAt xs (at + 2) = omega arith in
+      (λ i. wordBytes (p i) ++ wordBytes (q i)) ∙ (λ i. word-part at i ++ word-part (at + 2) i) ∙ sym (part-add xs at 2 2)
+
+  pub qword-below : (at : ℕ) → qwordAt xs at < 18446744073709551616
+  unfolding qwordAt
+  qword-below at =
+      let high : dwordAt xs at < 4294967296 = dword-below at in
+      let low : dwordAt xs (at + 4) < 4294967296 = dword-below (at + 4) in
+      omega arith
+
+  pub qword-part : (at : ℕ) → qwordBytes (qwordAt xs at) ≡ part xs at 8
+  unfolding qwordAt qwordBytes
+  qword-part at =
+      let low : dwordAt xs (at + 4) < 4294967296 = dword-below (at + 4) in
+      let p : qwordAt xs at / 4294967296 ≡ dwordAt xs at = omega arith in
+      let q : qwordAt xs at % 4294967296 ≡ dwordAt xs (at + 4) = omega arith in
+      (λ i. dwordBytes (p i) ++ dwordBytes (q i)) ∙ (λ i. dword-part at i ++ dword-part (at + 4) i) ∙ sym (part-add xs at 4 4)
+
+-- a number's bytes are read as that number, whatever stands behind them
+pub word-back : (n : ℕ) → wordAt (wordBytes n) 0 ≡ n
+word-back n = omega arith
+
+pub dword-back : (n : ℕ) → dwordAt (dwordBytes n) 0 ≡ n
+dword-back n = omega arith
+
+pub qword-back : (n : ℕ) (rest : List ℕ) → qwordAt (qwordBytes n ++ rest) 0 ≡ n
+unfolding qwordAt qwordBytes
+qword-back n rest =
+    let both : n / 4294967296 * 4294967296 + n % 4294967296 ≡ n = omega arith in
+    (λ i. dword-back (n / 4294967296) i * 4294967296 + dword-back (n % 4294967296) i) ∙ both
+
+-- from a later place on, and behind some elements
+pub word-drop : (k : ℕ) (xs : List ℕ) (at : ℕ) → wordAt (drop k xs) at ≡ wordAt xs (k + at)
+word-drop k xs at =
+    ap₂ (λ (x y : ℕ). x * 256 + y) (getD-drop k xs at 0) (getD-drop k xs (at + 1) 0 ∙ ap (λ (i : ℕ). getD xs i 0) (omega arith))
+
+dword-drop : (k : ℕ) (xs : List ℕ) (at : ℕ) → dwordAt (drop k xs) at ≡ dwordAt xs (k + at)
+dword-drop k xs at =
+    ap₂ (λ (x y : ℕ). x * 65536 + y) (word-drop k xs at) (word-drop k xs (at + 2) ∙ ap (λ (i : ℕ). wordAt xs i) (omega arith))
+
+pub qword-drop : (k : ℕ) (xs : List ℕ) (at : ℕ) → qwordAt (drop k xs) at ≡ qwordAt xs (k + at)
+unfolding qwordAt
+qword-drop k xs at =
+    ap₂ (λ (x y : ℕ). x * 4294967296 + y) (dword-drop k xs at) (dword-drop k xs (at + 4) ∙ ap (λ (i : ℕ). dwordAt xs i) (omega arith))
+
+pub word-behind : (p q : List ℕ) (n k : ℕ) → length p ≡ n → wordAt (p ++ q) (n + k) ≡ wordAt q k
+word-behind p q n k e = sym (word-drop n (p ++ q) k) ∙ ap (λ (l : List ℕ). wordAt l k) (drop-at p q n e)
 
 -- ---- what is written over a buffer
 
@@ -194,6 +294,15 @@ patched-over p xs o at e =
 pub patched-front : (xs o : List ℕ) → patched 0 xs o ≡ over xs o
 unfolding patched over
 patched-front xs o = rw zero-add
+
+-- one part more, behind those that were put
+pub put-behind : (p xs o o₁ o₂ : List ℕ) (at : ℕ) → o₁ ≡ over p o → length p ≡ at → o₂ ≡ patched at xs o₁ → o₂ ≡ over (p ++ xs) o
+put-behind p xs o o₁ o₂ at e l f = f ∙ ap (patched at xs) e ∙ patched-over p xs o at l
+
+-- what fills a buffer is all that stands in it
+pub filled : (xs o : List ℕ) → length o ≤ length xs → patched 0 xs o ≡ xs
+unfolding over
+filled xs o h = patched-front xs o ∙ ap (_++_ xs) (drop-of-length-le o h) ∙ append-nil xs
 
 -- a patch is a longer front
 pub patched-is-over : (at : ℕ) (xs o : List ℕ) → at ≤ length o → patched at xs o ≡ over (take at o ++ xs) o

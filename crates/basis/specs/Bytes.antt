@@ -1,4 +1,4 @@
--- Bytes, WORDs and buffers as lists. Assumes nothing.
+-- Bytes, numbers and buffers as lists. Assumes nothing.
 use Prim.Native.Nat.{ℕ, zero, suc, _+_, _*_, _/_, _%_, _<_}
 use mathlib.Core.Bool.{Bool, true, false, _&&_}
 use mathlib.Core.List.{List, [], _∷_, _++_}
@@ -15,6 +15,20 @@ wordAt xs at = getD xs at 0 * 256 + getD xs (at + 1) 0
 
 abbrev pub wordBytes : ℕ → List ℕ
 wordBytes n = n / 256 ∷ n % 256 ∷ []
+
+-- a DWORD: two WORDs, the high one first
+abbrev pub dwordAt : List ℕ → ℕ → ℕ
+dwordAt xs at = wordAt xs at * 65536 + wordAt xs (at + 2)
+
+abbrev pub dwordBytes : ℕ → List ℕ
+dwordBytes n = wordBytes (n / 65536) ++ wordBytes (n % 65536)
+
+-- a QWORD: two DWORDs, the high one first
+unfoldable pub qwordAt : List ℕ → ℕ → ℕ
+qwordAt xs at = dwordAt xs at * 4294967296 + dwordAt xs (at + 4)
+
+unfoldable pub qwordBytes : ℕ → List ℕ
+qwordBytes n = dwordBytes (n / 4294967296) ++ dwordBytes (n % 4294967296)
 
 -- n elements from a place on, 0 for each that is not there
 unfoldable pub part : List ℕ → ℕ → ℕ → List ℕ

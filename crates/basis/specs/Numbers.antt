@@ -101,6 +101,6 @@ repeatDiffers = 23
 abbrev pub badRecord : ℕ
 badRecord = 29
 
--- the boundary's own: a record buffer shorter than its layout
+-- the boundary's own: a buffer shorter than the layout of its record or state, or not of a digest's length
 abbrev pub shortRecord : ℕ
 shortRecord = 64

@@ -1,4 +1,4 @@
-// What the crates above share: choice by a test, refusals in order, least and product, bytes, WORDs
+// What the crates above share: choice by a test, refusals in order, least and product, bytes, numbers
 // and parts of a slice, membership, the one way in which a buffer is written, and the numbers that
 // calls answer with.
 pub mod number;
@@ -7,7 +7,7 @@ ghost use mathlib.Core.Path.{_≡_};
 ghost use mathlib.Core.List.{_++_};
 ghost use Prim.Native.Nat.{_+_, _*_, _≤_, min};
 ghost use lib.ListN.{length, getD};
-ghost use Rattle.basis.specs.Bytes.{wordAt, wordBytes, same, patched};
+ghost use Rattle.basis.specs.Bytes.{wordAt, wordBytes, dwordAt, dwordBytes, qwordAt, qwordBytes, part, same, patched};
 ghost use Rattle.basis.specs.Choice.{pick, oneOf};
 ghost use Rattle.basis.specs.Stretch.{Stretch};
 
@@ -75,6 +75,57 @@ pub fn words_of(a: u16, b: u16, c: u16) -> [u8; 6]
     [first[0], first[1], second[0], second[1], third[0], third[1]]
 }
 
+// The DWORD at a place, high WORD first; a byte that is not there counts as 0.
+pub fn dword_at(bytes: &[u8], at: usize) -> u32
+    ensures { λ r. ⌜ r ≡ dwordAt (now (bytes .entry)) at ⌝ }
+{
+    if bytes.len() <= at {
+        return 0;
+    }
+    let high = word_at(bytes, at) as u32;
+    let low = word_at(bytes, at + 2) as u32;
+    high * 65536 + low
+}
+
+// The bytes of a DWORD, high WORD first.
+pub fn dword_bytes(dword: u32) -> [u8; 4]
+    ensures { λ r. ⌜ r ≡ dwordBytes dword ⌝ }
+{
+    let high = word_bytes((dword / 65536) as u16);
+    let low = word_bytes((dword % 65536) as u16);
+    [high[0], high[1], low[0], low[1]]
+}
+
+// The QWORD at a place, high DWORD first; a byte that is not there counts as 0.
+pub fn qword_at(bytes: &[u8], at: usize) -> u64
+    ensures { λ r. ⌜ r ≡ qwordAt (now (bytes .entry)) at ⌝ }
+{
+    if bytes.len() <= at {
+        return 0;
+    }
+    let high = dword_at(bytes, at) as u64;
+    let low = dword_at(bytes, at + 4) as u64;
+    high * 4294967296 + low
+}
+
+// The bytes of a QWORD, high DWORD first.
+pub fn qword_bytes(qword: u64) -> [u8; 8]
+    ensures { λ r. ⌜ r ≡ qwordBytes qword ⌝ }
+{
+    let high = dword_bytes((qword / 4294967296) as u32);
+    let low = dword_bytes((qword % 4294967296) as u32);
+    [
+        high[0],
+        high[1],
+        high[2],
+        high[3],
+        low[0],
+        low[1],
+        low[2],
+        low[3],
+    ]
+}
+
 // The part of a slice from a place on, so many bytes of it or as many as there are: the part itself,
 // not a copy.
 pub fn part_of<'a>(whole: &'a [u8], start: usize, count: usize) -> &'a [u8]
@@ -108,6 +159,16 @@ pub fn put(buffer: &mut [u8], at: usize, src: &[u8])
     ensures { λ _. ⌜ now (buffer .exit) ≡ patched at (now (src .entry)) (now (buffer .entry)) ⌝ }
 {
     bytes::copy(src, &mut buffer[at..]);
+}
+
+// Sixteen bytes from a place on, 00 for each that is not there: a version text, or a digest.
+pub fn sixteen_at(bytes: &[u8], at: usize) -> [u8; 16]
+    ensures { λ r. ⌜ r ≡ part (now (bytes .entry)) at 16 ⌝ }
+{
+    let mut found = [0u8; 16];
+    let there = part_of(bytes, at, 16);
+    put(&mut found, 0, there);
+    found
 }
 
 // The byte is one of a list.

@@ -75,5 +75,6 @@ pub const REPEAT_DIFFERS: u8 = 23;
 // A lent record that breaks the rules.
 pub const BAD_RECORD: u8 = 29;
 
-// The boundary's own: a record buffer shorter than its layout.
+// The boundary's own: a buffer shorter than the layout of its record or state, or not of a digest's
+// length.
 pub const SHORT_RECORD: u8 = 64;

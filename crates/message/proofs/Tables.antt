@@ -1,18 +1,18 @@
 -- 01's table, column by column: fields and data stand for each other. Assumes nothing.
 use Prim.Native.Nat.{ℕ, _+_, _≤_}
-use native.Mathlib.Nat.{add-assoc, div-add-mod'}
+use native.Mathlib.Nat.{div-add-mod'}
 use native.Mathlib.Omega.{arith}
 use mathlib.Core.Path.{_≡_, refl, sym, _∙_}
 use mathlib.Core.Bool.{Bool, true}
 use mathlib.Core.List.{List, [], _∷_, _++_}
 use lib.Dec.{eqb, leb}
 use lib.ListN.{length, length-append}
-use lib.Seq.{take-at, take-all, getD-append-add}
+use lib.Seq.{take-all}
 use borrow.Author.Tests.{eqb-true, eqb-false, leb-true}
 use Rattle.basis.specs.Choice.{pick, oneOf}
-use Rattle.basis.specs.Bytes.{wordAt, wordBytes, part}
+use Rattle.basis.specs.Bytes.{wordBytes, part}
 use Rattle.basis.proofs.Choosing.{by-cases, and-left, and-right}
-use Rattle.basis.proofs.Lists.{part-within}
+use Rattle.basis.proofs.Lists.{part-within, part-front, word-behind}
 use Rattle.message.specs.Limits.{sizeMax, isWord}
 use Rattle.message.specs.Version.{goodVersion}
 use Rattle.message.specs.Messages.{DeviceMessage, deviceFields, fragmentOk, GatewayMessage, gatewayFields, installCode, Table, toDevice}
@@ -37,14 +37,8 @@ pub version-length : (v : List ℕ) → goodVersion v ≡ true → length v ≡ 
 unfolding goodVersion
 version-length v e = eqb-true (length v) 16 (and-left _ _ e)
 
-pub part-front : (v w : List ℕ) (n : ℕ) → length v ≡ n → part (v ++ w) 0 n ≡ v
-part-front v w n e = part-within (v ++ w) 0 n (simp length-append (omega arith)) ∙ take-at v w n e
-
 pub part-rest : (x : ℕ) (v : List ℕ) (n : ℕ) → length v ≡ n → part (x ∷ v) 1 n ≡ v
 part-rest x v n e = part-within (x ∷ v) 1 n (omega arith) ∙ take-all n v (omega arith)
-
-pub word-behind : (p q : List ℕ) (n k : ℕ) → length p ≡ n → wordAt (p ++ q) (n + k) ≡ wordAt q k
-word-behind p q n k e = rw (← e, add-assoc (length p) k 1, getD-append-add p q k 0, getD-append-add p q (k + 1) 0)
 
 -- the code chooses the message
 pub by-code : (M : Type 0) (codeOf : M → ℕ) (code : ℕ) {a b c d e f : M} → 19 ≤ code → code ≤ 24

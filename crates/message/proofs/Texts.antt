@@ -2,15 +2,13 @@
 use Prim.Native.Nat.{ℕ, suc, _+_, _≤_, _<_}
 use native.Mathlib.Numerals.{add-one}
 use native.Mathlib.Omega.{arith}
-use mathlib.Core.Path.{_≡_, sym, _∙_}
+use mathlib.Core.Path.{_≡_}
 use mathlib.Core.Bool.{Bool, true, false, _&&_}
 use mathlib.Core.List.{List}
 use lib.Dec.{leb}
-use lib.ListN.{length, take, drop, getD, set, drop-of-length-le, length-set}
-use lib.Seq.{drop-cons, take-suc-set, take-all}
+use lib.ListN.{length, drop, getD, drop-of-length-le}
+use lib.Seq.{drop-cons}
 use borrow.Author.Tests.{eq-eqb, ne-eqb}
-use Rattle.basis.specs.Bytes.{part}
-use Rattle.basis.proofs.Lists.{part-more}
 use Rattle.basis.proofs.Choosing.{pick-yes, pick-no}
 use Rattle.message.specs.Version.{versionCharacter, front, allZero, goodVersion}
 
@@ -55,19 +53,3 @@ module _ (v : List ℕ) (i : ℕ) where
 pub good-by-parts : (v : List ℕ) (n : ℕ) (z : Bool) → length v ≡ 16 → n ≡ front v → z ≡ allZero (drop n v) → (leb 1 n && z) ≡ goodVersion v
 unfolding goodVersion
 good-by-parts v n z e p q = rw (eq-eqb (length v) 16 e, q, p)
-
--- ---- the text read from a message, byte by byte
-
-module _ (m : List ℕ) (at : ℕ) (v : List ℕ) (i : ℕ) where
-  abbrev pub Read : Type 0
-  Read = (at < length m) × (i ≤ 16) × (length v ≡ 16) × (take i v ≡ part m at i)
-
-pub filled : (m : List ℕ) (at : ℕ) (v : List ℕ) (i b : ℕ) → Read m at v i → i < 16 → b ≡ getD m (at + i) 0 → Read m at (set v i b) (i + 1)
-filled m at v i b (h, k, l, e) lt p =
-    let within : i < length v = omega arith in
-    (h, omega arith, length-set v i b ∙ l, rw (part-more m at i, add-one i, take-suc-set v i b within, e, p))
-
-pub whole : (m : List ℕ) (at : ℕ) (v : List ℕ) (i : ℕ) → Read m at v i → 16 ≤ i → v ≡ part m at 16
-whole m at v i (h, k, l, e) end =
-    let q : i ≡ 16 = omega arith in
-    sym (take-all i v (omega arith)) ∙ e ∙ rw q

@@ -70,14 +70,5 @@ pub fn same_version(a: [u8; 16], b: [u8; 16]) -> bool
 pub fn version_at(message: &[u8], at: usize) -> [u8; 16]
     ensures { λ r. ⌜ r ≡ part (now (message .entry)) at 16 ⌝ }
 {
-    let mut version = [0u8; 16];
-    if message.len() <= at {
-        return version;
-    }
-    let mut i = 0;
-    while i < 16 {
-        version[i] = basis::byte_at(message, at + i);
-        i += 1;
-    }
-    version
+    basis::sixteen_at(message, at)
 }
