@@ -1,6 +1,7 @@
 pub mod Steps
 pub mod Records
 pub mod Walks
+pub mod ReaderWalks
 pub mod Writes
 pub mod Mends
 pub mod MendedCaptures

@@ -1,18 +1,18 @@
 -- A record is read as it was written, what is read as one stands in the capture byte for byte, and what is given where there is none: the claims
 -- of specs/Recorded. Assumes nothing.
 use Prim.Native.Nat.{ℕ, suc, _+_, _*_, _/_, _%_, _≤_, _<_}
-use native.Mathlib.Nat.{add-assoc, add-zero}
+use native.Mathlib.Nat.{add-zero}
 use native.Mathlib.Omega.{arith}
 use mathlib.Core.Path.{_≡_, refl, sym, _∙_, ap}
 use mathlib.Core.Bool.{Bool, true, false}
 use mathlib.Core.List.{List, [], _∷_, _++_}
 use lib.Dec.{eqb}
 use lib.ListN.{length, take, drop, getD, length-append, length-take, length-drop}
-use lib.Seq.{getD-append-add, drop-append-add, take-append-seam, take-add, drop-drop}
+use lib.Seq.{drop-append-add, take-append-seam, take-add, drop-drop}
 use borrow.Author.Tests.{ne-eqb}
 use Rattle.basis.specs.Numbers.{cutShort}
 use Rattle.basis.specs.Bytes.{Bytes, wordAt, wordBytes, part}
-use Rattle.basis.proofs.Lists.{part-within}
+use Rattle.basis.proofs.Lists.{part-within, word-back, word-behind}
 use Rattle.capture.specs.Capture.{Item, markOf, recordBytes, headerLength, wrongMark, left, itemAt, placeAfter, partOf}
 use Rattle.capture.specs.Recorded.{Recorded, NoRecord}
 use Rattle.capture.proofs.Steps.{ends, one-left, wrong-mark, cut-short, Found, found, is-found, is-end}
@@ -26,13 +26,6 @@ mark-tells : (toDevice : Bool) → eqb (markOf toDevice) (markOf true) ≡ toDev
 mark-tells true = refl
 mark-tells false = refl
 
--- the WORD at a place behind some bytes, and the WORD that its two bytes make
-word-behind : (before rest : List ℕ) (at : ℕ) → wordAt (before ++ rest) (length before + at) ≡ wordAt rest at
-word-behind before rest at = rw (add-assoc (length before) at 1, getD-append-add before rest at 0, getD-append-add before rest (at + 1) 0)
-
-halves : (n : ℕ) → n / 256 * 256 + n % 256 ≡ n
-halves n = omega arith
-
 pub length-record : (toDevice : Bool) (message : List ℕ) → length (recordBytes toDevice message) ≡ headerLength + length message
 unfolding recordBytes
 length-record toDevice message = omega arith
@@ -45,12 +38,12 @@ module _ (before : List ℕ) (toDevice : Bool) (message rest : List ℕ) where
 
   mark-read : markOf toDevice ≡ wordAt capture (length before)
   unfolding recordBytes
-  mark-read = sym (ap (wordAt capture) (sym (add-zero (length before))) ∙ word-behind before (recordBytes toDevice message ++ rest) 0
-      ∙ halves (markOf toDevice))
+  mark-read = sym (ap (wordAt capture) (sym (add-zero (length before))) ∙ word-behind before (recordBytes toDevice message ++ rest) _ 0 refl
+      ∙ word-back (markOf toDevice))
 
   length-read : length message ≡ wordAt capture (length before + 2)
   unfolding recordBytes
-  length-read = sym (word-behind before (recordBytes toDevice message ++ rest) 2 ∙ halves (length message))
+  length-read = sym (word-behind before (recordBytes toDevice message ++ rest) _ 2 refl ∙ word-back (length message))
 
   all-there : headerLength + length message ≤ left capture (length before)
   all-there = simp (length-append, length-record) (omega arith)
