@@ -1,0 +1,4 @@
+pub mod Steps
+pub mod Feeding
+pub mod Closing
+pub mod Cases
