@@ -16,9 +16,10 @@ use Rattle.device_record.specs.declared.Device.{Device}
 use Rattle.device_record.specs.Record.{loading}
 use Rattle.bitmap.specs.Bitmap.{lowestMissing}
 use Rattle.device.specs.declared.Finished.{Finished}
+use Rattle.device.specs.declared.DigestAnswer.{DigestAnswer}
 use Rattle.device.specs.Rules as rules
 use Rattle.device.specs.Rules.{After, onQuery, onAnnounce, onFragment, onDownloadReply, onExecute, onResultReply, begin, store, handle, receiveOf, wanted}
-use Rattle.device.specs.Rules.{nextMessageOf, installFinishedOf}
+use Rattle.device.specs.Rules.{nextMessageOf, installFinishedOf, giveDigestOf}
 use Rattle.bitmap.proofs.Bitmaps.{lowest-exists}
 use Rattle.device.proofs.Holds.{Rule}
 use Rattle.device.proofs.Sound.{Download, Sound, sound-record, sound-room}
@@ -83,6 +84,12 @@ module _ (rule : Rule) (d : Device) (image map : List ℕ) (s : Sound rule d ima
       by-cases (λ (f : Finished). Neither (f .number)) (λ _. omega arith)
       (λ _. unless 29 (sound-record rule d image map s)
       (by-cases Neither (λ _. by-cases Neither (λ _. omega arith) (λ _. omega arith)) (λ _. omega arith)))
+
+  pub give-neither : (digest : List ℕ) → Neither (giveDigestOf d digest .number)
+  unfolding giveDigestOf refusal
+  give-neither digest =
+      by-cases (λ (g : DigestAnswer). Neither (g .number)) (λ _. omega arith)
+      (λ _. unless 29 (sound-record rule d image map s) (by-cases Neither (λ _. omega arith) (λ _. omega arith)))
 
   wanted-fine : Fine (wanted d map)
   unfolding wanted

@@ -12,12 +12,12 @@ use Rattle.device_record.specs.declared.Device.{Device}
 use Rattle.device_record.specs.declared.Made.{Made}
 use Rattle.device_record.specs.Record.{fresh, newOf, recordOk}
 use Rattle.device.proofs.Guarded.{asking-passed, receiving-passed}
-use Rattle.device.specs.Rules.{After, refuse, receiveOf, nextMessageOf, installFinishedOf}
+use Rattle.device.specs.Rules.{After, refuse, receiveOf, nextMessageOf, installFinishedOf, giveDigestOf}
 use Rattle.device.specs.RefusedMaking.{Unusable, RefusedMaking}
 
 module _ (d : Device) (broken : recordOk d ≡ false) where
   unusable : Unusable d
-  unfolding receiveOf nextMessageOf installFinishedOf said pick
+  unfolding receiveOf nextMessageOf installFinishedOf giveDigestOf said pick
   unusable =
       record {
         receive = λ image map reply supported pcp condition message.
@@ -27,6 +27,7 @@ module _ (d : Device) (broken : recordOk d ≡ false) where
             by-refusal (λ (r : Reading GatewayMessage). let s : Sent = said toGateway r reply in (s .number ≢ 0) × (s ≡ unsent (s .number) reply)) _ _ _ broken
             (λ e. asking-passed d image map reply e .sound) (λ n. (n, refl));
         install-finished = λ code. rw (fails 29 (recordOk d) _ broken);
+        give-digest = λ digest. rw (fails 29 (recordOk d) _ broken);
       }
 
 broken-made : recordOk (fresh (replicate 16 0)) ≡ false

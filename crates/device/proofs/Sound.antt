@@ -18,7 +18,9 @@ use Rattle.message.specs.Version.{goodVersion}
 use Rattle.message.specs.Messages.{fragment, installCode, found, deviceRow}
 use Rattle.message.specs.declared.Fields.{Fields}
 use Rattle.device_record.specs.declared.Device.{Device}
-use Rattle.device_record.specs.Record.{idle, loading, loaded, acked, failed, installing, reporting, fresh, inPhase, begun, withOutcome, downloadOk, recordOk}
+use Rattle.device_record.specs.declared.Expected.{Expected}
+use Rattle.device_record.specs.Record.{idle, loading, loaded, acked, failed, installing, reporting, fresh, inPhase, begun, withOutcome, withDigest}
+use Rattle.device_record.specs.Record.{downloadOk, recordOk}
 use Rattle.device_record.specs.Record.{memoryOk, mapBytes}
 use Rattle.bitmap.specs.Bitmap.{marked, mark, cleared, setBits}
 use Rattle.device.specs.Rules.{completion}
@@ -42,6 +44,7 @@ pub record Download (rule : Rule) (d : Device) (image map : List ℕ) : Type 0 w
 pub record Sound (rule : Rule) (d : Device) (image map : List ℕ) : Type 0 where
   pub phase-known : d .phase ≤ reporting
   pub outcome-known : installCode (d .outcome) ≡ true
+  pub flag-known : d .expected .set ≤ 1
   pub running-good : goodVersion (d .running) ≡ true
   pub target-good : goodVersion (d .fields .version) ≡ true
   pub download : (d .phase ≡ idle → ⊥) → Download rule d image map
@@ -66,7 +69,7 @@ module _ (rule : Rule) (d : Device) (image map : List ℕ) (s : Sound rule d ima
   pub sound-record : recordOk d ≡ true
   unfolding recordOk
   sound-record =
-      and-both (and-both (le-leb (d .phase) reporting (s .phase-known)) (s .outcome-known))
+      and-both (and-both (le-leb (d .phase) reporting (s .phase-known)) (and-both (s .outcome-known) (le-leb (d .expected .set) 1 (s .flag-known))))
       (and-both (and-both (s .running-good) (s .target-good))
       (by-cases (λ (t : Bool). t ≡ true) (λ _. refl) (λ p. download-ok (s .download (eqb-false (d .phase) idle p)))))
 
@@ -85,7 +88,7 @@ module _ (rule : Rule) (d : Device) (image map : List ℕ) (s : Sound rule d ima
 pub sound-fresh : (rule : Rule) (version image map : List ℕ) → goodVersion version ≡ true → Sound rule (fresh version) image map
 unfolding installCode oneOf
 sound-fresh rule version image map v =
-    record { phase-known = omega arith; outcome-known = refl; running-good = v; target-good = v; download = λ h. absurd (h refl) }
+    record { phase-known = omega arith; outcome-known = refl; flag-known = omega arith; running-good = v; target-good = v; download = λ h. absurd (h refl) }
 
 -- another rule that follows from the one that holds
 pub sound-under : (rule other : Rule) (d : Device) (image map : List ℕ)
@@ -96,6 +99,7 @@ sound-under rule other d image map so s =
     record {
       phase-known = s .phase-known;
       outcome-known = s .outcome-known;
+      flag-known = s .flag-known;
       running-good = s .running-good;
       target-good = s .target-good;
       download = λ h.
@@ -120,6 +124,7 @@ sound-begun rule other d image map condition f b s =
     record {
       phase-known = omega arith;
       outcome-known = s .outcome-known;
+      flag-known = omega arith;
       running-good = s .running-good;
       target-good = and-left (goodVersion (f .version)) _ (b .valid);
       download = λ _. record {
@@ -131,11 +136,11 @@ sound-begun rule other d image map condition f b s =
       };
     }
 
-completion-phase : (stored last : ℕ) (f : Fields) (image : List ℕ)
-    → let p : ℕ = completion stored last f image in
+completion-phase : (stored last : ℕ) (f : Fields) (x : Expected) (image : List ℕ)
+    → let p : ℕ = completion stored last f x image in
     (p ≤ reporting) × (p ≡ loading → stored ≡ f .total → ⊥) × ((p ≡ loading → ⊥) → stored ≡ f .total)
 unfolding completion
-completion-phase stored last f image =
+completion-phase stored last f x image =
     by-cases (λ (p : ℕ). (p ≤ reporting) × (p ≡ loading → stored ≡ f .total → ⊥) × ((p ≡ loading → ⊥) → stored ≡ f .total))
     (λ t. by-cases (λ (p : ℕ). (p ≤ reporting) × (p ≡ loading → stored ≡ f .total → ⊥) × ((p ≡ loading → ⊥) → stored ≡ f .total))
     (λ _. (omega arith, (λ z. absurd (omega arith)), λ _. eqb-true stored (f .total) t))
@@ -150,7 +155,7 @@ sound-stored rule d image map index bytes st new s =
     let fits : length bytes ≤ d .fields .size = fragment-fits (d .fields) index (length bytes) (st .long) in
     let last : ℕ = lastAfter (d .fields) index (length bytes) (d .last) in
     let filled : List ℕ = patched (index * d .fields .size) bytes image in
-    let (known, on, done) = completion-phase (d .stored + 1) last (d .fields) filled in
+    let (known, on, done) = completion-phase (d .stored + 1) last (d .fields) (d .expected) filled in
     let counts : d .stored + 1 ≡ setBits (mark index map) (d .fields .total) =
     omega (
       arith,
@@ -160,6 +165,7 @@ sound-stored rule d image map index bytes st new s =
     record {
       phase-known = known;
       outcome-known = s .outcome-known;
+      flag-known = s .flag-known;
       running-good = s .running-good;
       target-good = s .target-good;
       download = λ _. record {
@@ -177,6 +183,7 @@ sound-idle rule d image map s =
     record {
       phase-known = omega arith;
       outcome-known = s .outcome-known;
+      flag-known = s .flag-known;
       running-good = s .running-good;
       target-good = s .target-good;
       download = λ h. absurd (h refl);
@@ -188,12 +195,15 @@ Past phase = (phase ≡ idle → ⊥) × (phase ≡ loading → ⊥) × (phase �
 
 sound-on : (rule : Rule) (d : Device) (image map : List ℕ) (phase outcome : ℕ) (running : List ℕ) → Past (d .phase) → phase ≤ reporting
     → (phase ≡ loading → ⊥) → installCode outcome ≡ true → goodVersion running ≡ true → Sound rule d image map
-    → Sound rule (record { phase = phase; running = running; fields = d .fields; stored = d .stored; last = d .last; outcome = outcome }) image map
+    → Sound rule
+    (record { phase = phase; running = running; fields = d .fields; stored = d .stored; last = d .last; outcome = outcome; expected = d .expected })
+    image map
 sound-on rule d image map phase outcome running past known on code version s =
     let w : Download rule d image map = s .download (past .0) in
     record {
       phase-known = known;
       outcome-known = code;
+      flag-known = s .flag-known;
       running-good = version;
       target-good = s .target-good;
       download = λ _. record {
@@ -222,6 +232,7 @@ sound-differs rule d image map p s =
     record {
       phase-known = omega arith;
       outcome-known = s .outcome-known;
+      flag-known = s .flag-known;
       running-good = s .running-good;
       target-good = s .target-good;
       download = λ _. record {
@@ -231,6 +242,19 @@ sound-differs rule d image map p s =
         unfinished = λ e. absurd (omega arith);
         full = λ _ f. absurd (f refl);
       };
+    }
+
+-- a digest given: nothing that counts of the download changes
+pub sound-digest : (rule : Rule) (d : Device) (image map digest : List ℕ) → Sound rule d image map → Sound rule (withDigest digest d) image map
+sound-digest rule d image map digest s =
+    record {
+      phase-known = s .phase-known;
+      outcome-known = s .outcome-known;
+      flag-known = omega arith;
+      running-good = s .running-good;
+      target-good = s .target-good;
+      download = λ p. let w : Download rule d image map = s .download p in
+          record { holds = w .holds; counts = w .counts; last-fits = w .last-fits; unfinished = w .unfinished; full = w .full };
     }
 
 pub sound-executed : (rule : Rule) (d : Device) (image map : List ℕ) → (d .phase ≡ loaded) ⊎ (d .phase ≡ acked)
@@ -259,6 +283,7 @@ sound-does rule d image map input o (Views.begins condition f i b e) new s = rw 
 sound-does rule d image map input o (Views.stores condition index bytes i st e) new s =
     rw e (sound-stored rule d image map index bytes st (new condition index bytes i st) s)
 sound-does rule d image map input o (Views.differs condition index bytes i p r e) new s = rw e (sound-differs rule d image map p s)
+sound-does rule d image map input o (Views.takes-digest digest i p e) new s = rw e (sound-digest rule d image map digest s)
 sound-does rule d image map input o (Views.moves phase m e) new s = rw e (sound-moved rule d image map input phase m s)
 sound-does rule d image map input o (Views.executes condition i p e) new s = rw e (sound-executed rule d image map p s)
 sound-does rule d image map input o (Views.reports code i p k e) new s = rw e (sound-outcome rule d image map code p k s)

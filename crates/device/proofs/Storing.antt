@@ -46,7 +46,7 @@ module _ (d : Device) (image map : List ℕ) (index : ℕ) (content : List ℕ)
 -- what was written, put together
 pub stored-all : (d : Device) (image map : List ℕ) (index : ℕ) (content : List ℕ) (at last phase : ℕ) (filled marks : List ℕ) (next : Device)
     → at ≡ index * d .fields .size → filled ≡ patched at content image → marks ≡ mark index map
-    → last ≡ pick (eqb (index + 1) (d .fields .total)) (length content) (d .last) → phase ≡ completion (d .stored + 1) last (d .fields) filled
+    → last ≡ pick (eqb (index + 1) (d .fields .total)) (length content) (d .last) → phase ≡ completion (d .stored + 1) last (d .fields) (d .expected) filled
     → next ≡ withFragment phase (d .stored + 1) last d → (reply : List ℕ)
     → moved next filled marks reply next ≡ store d image map reply index content
 unfolding store

@@ -23,24 +23,27 @@ use Rattle.message.specs.declared.Fields.{Fields}
 use Rattle.round_trips.proofs.WrittenRead.{read, read-refused}
 use Rattle.device_decisions.proofs.Accepted.{Accepted, accepted-facts}
 use Rattle.device_record.specs.declared.Device.{Device}
-use Rattle.device_record.specs.Record.{idle, loading, loaded, acked, failed, installing, reporting, holding, inPhase, begun, withFragment, withOutcome}
-use Rattle.device_record.specs.Record.{recordOk, mapBytes, askRefusal, finishRefusal}
+use Rattle.device_record.specs.Record.{idle, loading, loaded, acked, failed, installing, reporting, holding, inPhase, begun, withFragment}
+use Rattle.device_record.specs.Record.{withOutcome, withDigest}
+use Rattle.device_record.specs.Record.{recordOk, mapBytes, askRefusal, finishRefusal, giveRefusal}
 use Rattle.device_decisions.proofs.Tested.{Passed, Differs, fragment-passed, fragment-differs}
 use Rattle.bitmap.specs.Bitmap.{marked, mark, cleared, lowestMissing}
 use Rattle.device.specs.declared.Finished.{Finished}
+use Rattle.device.specs.declared.DigestAnswer.{DigestAnswer}
 use Rattle.device.specs.Rules as rules
 use Rattle.device.specs.Rules.{After, announceResult, resumes, fragmentLength, completion, executeResult, refuse, moved, replied, begin, store, onQuery}
 use Rattle.device.specs.Rules.{onAnnounce, onFragment, onDownloadReply, onExecute, onResultReply, handle, receiveOf, wanted, nextMessageOf}
-use Rattle.device.specs.Rules.{installFinishedOf}
+use Rattle.device.specs.Rules.{installFinishedOf, giveDigestOf}
 use Rattle.device_decisions.specs.Decisions.{lastAfter}
 
 -- ---- calls, and what they leave
 
--- a message is given under a condition, and read so; the next message is asked for; the installer ends
+-- a message is given under a condition, and read so; the next message is asked for; the installer ends; a digest is given
 pub data Input : Type 0 where
   hears : (condition : ℕ) → Reading DeviceMessage → Input
   asks : Input
   installs : (code : ℕ) → Input
+  digests : (digest : List ℕ) → Input
 
 -- the number, the record and both buffers after a call, and what it puts on the air
 pub record Out : Type 0 where
@@ -76,6 +79,11 @@ installOut d image map code =
     let r : Finished = installFinishedOf d code in
     out (r .number) (r .device) image map []
 
+abbrev pub giveOut : Device → (image map digest : List ℕ) → Out
+giveOut d image map digest =
+    let g : DigestAnswer = giveDigestOf d digest in
+    out (g .number) (g .device) image map []
+
 -- ---- the view
 
 module _ (d : Device) (image map : List ℕ) where
@@ -106,7 +114,7 @@ module _ (d : Device) (image map : List ℕ) where
       let stored : ℕ = d .stored + 1 in
       let last : ℕ = lastAfter (d .fields) index (length bytes) (d .last) in
       let filled : List ℕ = patched (index * d .fields .size) bytes image in
-      out 0 (withFragment (completion stored last (d .fields) filled) stored last d) filled (mark index map) []
+      out 0 (withFragment (completion stored last (d .fields) (d .expected) filled) stored last d) filled (mark index map) []
 
   -- an announcement of the download that is held
   pub record Resumes (condition : ℕ) (f : Fields) : Type 0 where
@@ -161,6 +169,7 @@ module _ (d : Device) (image map : List ℕ) where
         → o ≡ out 0 (inPhase installing d) image map (spoken (executeReply 0x00)) → Does input o
     reports : (code : ℕ) → input ≡ installs code → d .phase ≡ installing → installCode code ≡ true
         → o ≡ out 0 (withOutcome code (pick (eqb code 0x00) (d .fields .version) (d .running)) d) image map [] → Does input o
+    takes-digest : (digest : List ℕ) → input ≡ digests digest → d .phase ≡ loading → o ≡ out 0 (withDigest digest d) image map [] → Does input o
 
 -- ---- what is said is what stands in the buffer
 
@@ -216,8 +225,15 @@ same-fields f g e =
 -- to stay in a phase is to stay the same
 pub in-phase : (phase : ℕ) (d : Device) → d .phase ≡ phase → inPhase phase d ≡ d
 in-phase phase d e =
-    λ i. record
-    { phase = sym e i; running = d .running; fields = d .fields; stored = d .stored; last = d .last; outcome = d .outcome }
+    λ i. record {
+      phase = sym e i;
+      running = d .running;
+      fields = d .fields;
+      stored = d .stored;
+      last = d .last;
+      outcome = d .outcome;
+      expected = d .expected;
+    }
 
 -- ---- one call
 
@@ -351,7 +367,7 @@ module _ (d : Device) (image map : List ℕ) where
         (λ _. by-cases S (λ p. asked _ (says-failed refl (eqb-true _ _ p) refl refl))
         (λ _. by-cases S (λ p. asked _ (says-result refl (eqb-true _ _ p) refl refl)) (λ _. nothing 9 (λ z. omega arith) (λ z. omega arith)))))
 
-  -- the three calls
+  -- the four calls
 
   pub receive-does : (reply : List ℕ) (supported pcp : Bool) (condition : ℕ) (message : List ℕ)
       → Does d image map (hears condition (readOf toDevice supported pcp message)) (receiveOut d image map reply supported pcp condition message)
@@ -381,6 +397,17 @@ module _ (d : Device) (image map : List ℕ) where
       reports code refl (eqb-true _ _ p) k refl)
       (λ t. still n [] (refuses (eqb-false n 0 t) (refusal-among Other _ (λ z. omega arith) (omega arith)) refl) refl)
 
+  pub give-does : (digest : List ℕ) → Does d image map (digests digest) (giveOut d image map digest)
+  unfolding giveDigestOf
+  give-does digest =
+      let n : ℕ = giveRefusal d in
+      by-cases (λ (g : DigestAnswer). Does d image map (digests digest) (out (g .number) (g .device) image map []))
+      (λ t.
+      let (_, e₁) = passed 28 (recordOk d) _ (eqb-true n 0 t) in
+      let (p, _) = passed 8 (eqb (d .phase) loading) _ e₁ in
+      takes-digest digest refl (eqb-true _ _ p) refl)
+      (λ t. still n [] (refuses (eqb-false n 0 t) (refusal-among Other _ (λ z. omega arith) (omega arith)) refl) refl)
+
 -- ---- 23: only a repeat that differs gets it
 
 still-other : (d : Device) (image map : List ℕ) (input : Input) (n : ℕ) (says : List (List ℕ)) → Still d image map input n says → Other n
@@ -408,3 +435,4 @@ does-other d image map input o (differs c index bytes i p r e) h = absurd (h c i
 does-other d image map input o (moves phase m e) h = rw e (λ z. omega arith)
 does-other d image map input o (executes c i p e) h = rw e (λ z. omega arith)
 does-other d image map input o (reports code i p k e) h = rw e (λ z. omega arith)
+does-other d image map input o (takes-digest digest i p e) h = rw e (λ z. omega arith)

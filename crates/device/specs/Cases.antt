@@ -1,6 +1,6 @@
 -- The device's calls in computed cases: what each message brings in each phase, what changes in record, image and map, what is said when
--- asked, the installer's end, and the refusals in their order. What a row says is written from 01, "The head" and "Numbers returned", as 02
--- (2026-06) amends it. Assumes nothing.
+-- asked, the installer's end, a digest given, tested, kept and cleared, and the refusals in their order. What a row says is written from 01,
+-- "The head" and "Numbers returned", as 02 (2026-05, 2026-06) amends it. Assumes nothing.
 use Prim.Native.Nat.{ℕ}
 use mathlib.Core.Bool.{Bool, true, false}
 use mathlib.Core.List.{List, [], _∷_, _++_}
@@ -13,7 +13,8 @@ use Rattle.device_record.specs.declared.Device.{Device}
 use Rattle.device_record.specs.Cases.{device}
 use Rattle.device_decisions.specs.Cases.{fields}
 use Rattle.device.specs.declared.Finished.{Finished}
-use Rattle.device.specs.Rules.{After, handle, receiveOf, nextMessageOf, installFinishedOf}
+use Rattle.device.specs.declared.DigestAnswer.{DigestAnswer}
+use Rattle.device.specs.Rules.{After, handle, receiveOf, nextMessageOf, installFinishedOf, giveDigestOf}
 
 -- runs V1, kept code 04; phase, the target's figure, size, total and check code, stored count, last length
 abbrev pub held : (phase figure size total code stored last : ℕ) → Device
@@ -22,6 +23,29 @@ held phase figure size total code stored last = device phase (text 1) (text figu
 -- V2 in 3 fragments of 32 bytes, with no check code
 abbrev pub holds : (phase stored last : ℕ) → Device
 holds phase stored last = held phase 2 32 3 0 stored last
+
+-- a record, with what it says of a digest: whether one is set, and which
+abbrev pub expecting : (set : ℕ) (digest : List ℕ) → Device → Device
+expecting set digest d =
+    record {
+      phase = d .phase;
+      running = d .running;
+      fields = d .fields;
+      stored = d .stored;
+      last = d .last;
+      outcome = d .outcome;
+      expected = record { set = set; digest = digest };
+    }
+
+-- a digest of sixteen bytes alike; a record in which it is set, and one whose flag and digest are 0
+abbrev pub alike : ℕ → List ℕ
+alike b = replicate 16 b
+
+abbrev pub withAlike : (b : ℕ) → Device → Device
+withAlike b d = expecting 1 (alike b) d
+
+abbrev pub without : Device → Device
+without d = expecting 0 (alike 0x00) d
 
 abbrev pub zeros : ℕ → List ℕ
 zeros n = replicate n 0
@@ -105,6 +129,17 @@ places a b c = replicate 32 a ++ (replicate 32 b ++ replicate 32 c)
 abbrev filled : List ℕ
 filled = replicate 32 0x41 ++ (replicate 32 0x42 ++ (0x43 ∷ zeros 31))
 
+-- the same without the second
+abbrev gap : List ℕ
+gap = replicate 32 0x41 ++ (zeros 32 ++ (0x43 ∷ zeros 31))
+
+-- MD5 of those 65 bytes, and of them with the 31 bytes 00 behind them
+abbrev digest65 : List ℕ
+digest65 = 0x09 ∷ 0xAC ∷ 0x02 ∷ 0xEF ∷ 0xC1 ∷ 0xA2 ∷ 0x15 ∷ 0xAF ∷ 0xD8 ∷ 0xE6 ∷ 0x11 ∷ 0x11 ∷ 0x87 ∷ 0xB5 ∷ 0xFA ∷ 0x88 ∷ []
+
+abbrev digest96 : List ℕ
+digest96 = 0x35 ∷ 0xDD ∷ 0x1A ∷ 0x2A ∷ 0x25 ∷ 0xE7 ∷ 0xD8 ∷ 0xC6 ∷ 0x94 ∷ 0xFF ∷ 0xE5 ∷ 0x31 ∷ 0x1D ∷ 0x93 ∷ 0xD6 ∷ 0x37 ∷ []
+
 -- ten places of 40 bytes, the ninth filled
 abbrev ninth : List ℕ
 ninth = zeros 320 ++ (replicate 40 0x41 ++ zeros 40)
@@ -122,6 +157,21 @@ changes =
     ((holds 1 2 0, places 0x41 0x42 0, 0x03 ∷ []), fragment 0x00 2 (replicate 32 0x43), (holds 2 3 32, places 0x41 0x42 0x43, 0x07 ∷ [])) ∷
     ((held 1 2 32 3 0x2C44 2 0, places 0x41 0x42 0, 0x03 ∷ []), fragment 0x00 2 (0x43 ∷ []), (held 2 2 32 3 0x2C44 3 1, filled, 0x07 ∷ [])) ∷
     ((held 1 2 32 3 0x2C45 2 0, places 0x41 0x42 0, 0x03 ∷ []), fragment 0x00 2 (0x43 ∷ []), (held 4 2 32 3 0x2C45 3 1, filled, 0x07 ∷ [])) ∷
+    -- the last one stored before: the same, by its length and not by that of the one that arrives
+    ((held 1 2 32 3 0x2C44 2 1, gap, 0x05 ∷ []), fragment 0x00 1 (replicate 32 0x42), (held 2 2 32 3 0x2C44 3 1, filled, 0x07 ∷ [])) ∷
+    ((held 1 2 32 3 0x2C45 2 1, gap, 0x05 ∷ []), fragment 0x00 1 (replicate 32 0x42), (held 4 2 32 3 0x2C45 3 1, filled, 0x07 ∷ [])) ∷
+    -- and with digests: that of the 65 bytes, and that of three whole places
+    (
+      (expecting 1 digest65 (held 1 2 32 3 0x2C44 2 1), gap, 0x05 ∷ []),
+      fragment 0x00 1 (replicate 32 0x42),
+      (expecting 1 digest65 (held 2 2 32 3 0x2C44 3 1), filled, 0x07 ∷ []),
+    )
+    ∷ (
+      (expecting 1 digest96 (held 1 2 32 3 0x2C44 2 1), gap, 0x05 ∷ []),
+      fragment 0x00 1 (replicate 32 0x42),
+      (expecting 1 digest96 (held 4 2 32 3 0x2C44 3 1), filled, 0x07 ∷ []),
+    )
+    ∷
     -- an announcement afresh: its four fields, count and last length 0, its map bytes zeroed and no more
     ((holds 2 3 7, places 1 2 3, 0xFF ∷ 0xFF ∷ []), announce (fields 3 40 2 5), (held 1 3 40 2 5 0 0, places 1 2 3, 0x00 ∷ 0xFF ∷ [])) ∷
     -- the last one again, of 7 bytes: nothing changes; of 6: the phase alone
@@ -195,10 +245,90 @@ abbrev pub finished : List (Device × ℕ × Finished)
 finished =
     (holds 5 3 7, 0x00, record { number = 0; device = device 6 (text 2) (text 2) 32 3 0 3 7 0x00 }) ∷
     (holds 5 3 7, 0x0A, record { number = 0; device = device 6 (text 1) (text 2) 32 3 0 3 7 0x0A }) ∷
+    -- a digest that is set stays
+    (withAlike 0xAB (holds 5 3 7), 0x00, record { number = 0; device = withAlike 0xAB (device 6 (text 2) (text 2) 32 3 0 3 7 0x00) }) ∷
+    (withAlike 0xAB (holds 5 3 7), 0x0A, record { number = 0; device = withAlike 0xAB (device 6 (text 1) (text 2) 32 3 0 3 7 0x0A) }) ∷
     -- 29, 9, 16
     (holds 2 3 33, 0x02, record { number = 29; device = holds 2 3 33 }) ∷
     (holds 2 3 7, 0x02, record { number = 9; device = holds 2 3 7 }) ∷
     (holds 5 3 7, 0x02, record { number = 16; device = holds 5 3 7 }) ∷
+    []
+
+-- a digest is given: record, digest; number, record
+abbrev pub givenDigests : List (Device × List ℕ × DigestAnswer)
+givenDigests =
+    (holds 1 1 0, alike 0xAB, record { number = 0; device = withAlike 0xAB (holds 1 1 0) }) ∷
+    (withAlike 0xAB (holds 1 1 0), alike 0x00, record { number = 0; device = withAlike 0x00 (holds 1 1 0) }) ∷
+    -- 29: in Loading, and before 9 in other phases; the flag is 2, or the count or the last length too high
+    (holds 1 3 0, alike 0xAB, record { number = 29; device = holds 1 3 0 }) ∷
+    (expecting 2 (alike 0xAB) (holds 1 1 0), alike 0xAB, record { number = 29; device = expecting 2 (alike 0xAB) (holds 1 1 0) }) ∷
+    (expecting 2 (alike 0xAB) (holds 0 1 0), alike 0xAB, record { number = 29; device = expecting 2 (alike 0xAB) (holds 0 1 0) }) ∷
+    (holds 2 3 33, alike 0xAB, record { number = 29; device = holds 2 3 33 }) ∷
+    -- 9
+    (holds 0 1 0, alike 0xAB, record { number = 9; device = holds 0 1 0 }) ∷
+    (withAlike 0xAB (holds 2 3 7), alike 0xCD, record { number = 9; device = withAlike 0xAB (holds 2 3 7) }) ∷
+    (holds 3 3 7, alike 0xAB, record { number = 9; device = holds 3 3 7 }) ∷
+    (holds 4 3 7, alike 0xAB, record { number = 9; device = holds 4 3 7 }) ∷
+    (holds 5 3 7, alike 0xAB, record { number = 9; device = holds 5 3 7 }) ∷
+    (holds 6 3 7, alike 0xAB, record { number = 9; device = holds 6 3 7 }) ∷
+    []
+
+-- MD5 of the byte 41, and of it with 31 bytes 00 behind it
+abbrev pub digest1 : List ℕ
+digest1 = 0x7F ∷ 0xC5 ∷ 0x62 ∷ 0x70 ∷ 0xE7 ∷ 0xA7 ∷ 0x0F ∷ 0xA8 ∷ 0x1A ∷ 0x59 ∷ 0x35 ∷ 0xB7 ∷ 0x2E ∷ 0xAC ∷ 0xBE ∷ 0x29 ∷ []
+
+abbrev pub digest32 : List ℕ
+digest32 = 0x2C ∷ 0x6C ∷ 0xE1 ∷ 0x53 ∷ 0x5F ∷ 0xD1 ∷ 0x42 ∷ 0xD9 ∷ 0x85 ∷ 0x8D ∷ 0xE6 ∷ 0xB5 ∷ 0x35 ∷ 0x5D ∷ 0x6A ∷ 0x18 ∷ []
+
+-- the only fragment arrives, the byte 41, whose check is 58E5: check code, whether a digest is set, and which; the phase. Flag and digest stay
+abbrev pub completed : List (ℕ × ℕ × List ℕ × ℕ)
+completed =
+    (0x0000, 1, digest1, 2) ∷
+    (0x58E5, 1, digest1, 2) ∷
+    -- another digest, here that of the whole place: Failed, whether there is a code or not
+    (0x0000, 1, digest32, 4) ∷
+    (0x58E5, 1, digest32, 4) ∷
+    -- another code: Failed, with the right digest too
+    (0x58E4, 1, digest1, 4) ∷
+    -- none is set, whatever stands in its place
+    (0x58E5, 0, digest32, 2) ∷
+    []
+
+-- what becomes of a digest, the second place being filled and its bit set: record, message; record
+abbrev pub digestAfter : List (Device × DeviceMessage × Device)
+digestAfter =
+    -- 20 resumed, and answered by another code: the record stays as it was
+    (withAlike 0xAB (held 1 2 32 3 7 1 0), announce (fields 2 32 3 7), withAlike 0xAB (held 1 2 32 3 7 1 0)) ∷
+    (withAlike 0xAB (held 3 2 32 3 7 3 5), announce (fields 2 32 3 7), withAlike 0xAB (held 3 2 32 3 7 3 5)) ∷
+    (withAlike 0xAB (holds 1 1 0), announce (fields 1 32 1 7), withAlike 0xAB (holds 1 1 0)) ∷
+    -- afresh for other fields, in Loading, Loaded and Acked: flag and digest are 0
+    (withAlike 0xAB (held 1 2 32 3 7 1 0), announce (fields 3 32 1 7), without (held 1 3 32 1 7 0 0)) ∷
+    (withAlike 0xAB (held 1 2 32 3 7 1 0), announce (fields 2 32 3 8), without (held 1 2 32 3 8 0 0)) ∷
+    (withAlike 0xAB (held 2 2 32 3 7 3 5), announce (fields 3 32 1 7), without (held 1 3 32 1 7 0 0)) ∷
+    (withAlike 0xAB (held 3 2 32 3 7 3 5), announce (fields 3 32 1 7), without (held 1 3 32 1 7 0 0)) ∷
+    -- so in Idle, in Loading for the fields that are held, their code being 0, and in Failed for those held
+    (withAlike 0xAB (holds 0 1 0), announce (fields 3 32 1 7), without (held 1 3 32 1 7 0 0)) ∷
+    (withAlike 0xAB (holds 1 1 0), announce (fields 2 32 3 0), without (holds 1 0 0)) ∷
+    (withAlike 0xAB (held 4 2 32 3 7 3 5), announce (fields 2 32 3 7), without (held 1 2 32 3 7 0 0)) ∷
+    -- 19
+    (withAlike 0xAB (holds 1 1 0), query, withAlike 0xAB (holds 1 1 0)) ∷
+    -- 21: stored while others are missing, a repeat, one that differs, 80, 81
+    (withAlike 0xAB (holds 1 1 0), fragment 0x00 0 (replicate 32 0x41), withAlike 0xAB (holds 1 2 0)) ∷
+    (withAlike 0xAB (holds 1 1 0), fragment 0x00 2 (0x43 ∷ []), withAlike 0xAB (holds 1 2 1)) ∷
+    (withAlike 0xAB (holds 1 1 0), fragment 0x00 1 (replicate 32 0x42), withAlike 0xAB (holds 1 1 0)) ∷
+    (withAlike 0xAB (holds 1 1 0), fragment 0x00 1 (replicate 32 0x41), withAlike 0xAB (holds 4 1 0)) ∷
+    (withAlike 0xAB (holds 1 1 0), fragment 0x80 0 [], withAlike 0xAB (holds 0 1 0)) ∷
+    (withAlike 0xAB (holds 1 1 0), fragment 0x81 0 [], withAlike 0xAB (holds 1 1 0)) ∷
+    -- 22
+    (withAlike 0xAB (holds 2 3 7), downloadReply 0x00, withAlike 0xAB (holds 3 3 7)) ∷
+    (withAlike 0xAB (holds 2 3 7), downloadReply 0x80, withAlike 0xAB (holds 0 3 7)) ∷
+    (withAlike 0xAB (holds 4 3 7), downloadReply 0x00, withAlike 0xAB (holds 0 3 7)) ∷
+    -- 23
+    (withAlike 0xAB (holds 1 1 0), execute, withAlike 0xAB (holds 1 1 0)) ∷
+    (withAlike 0xAB (holds 2 3 7), execute, withAlike 0xAB (holds 5 3 7)) ∷
+    (withAlike 0xAB (holds 5 3 7), execute, withAlike 0xAB (holds 5 3 7)) ∷
+    -- 24
+    (withAlike 0xAB (holds 6 3 7), resultReply 0x00, withAlike 0xAB (holds 0 3 7)) ∷
     []
 
 -- fragment 1, of 32 bytes 41
@@ -261,6 +391,18 @@ pub record DeviceCases : Type 0 where
       (λ r. r .2)
       answers
   pub ask : Agree (λ (r : Device × List ℕ × List ℕ). answerOf (nextMessageOf (r .0) (zeros 1280) (r .1) (zeros 26))) (λ r. r .2) asks
+  pub digest : Agree (λ (r : Device × List ℕ × DigestAnswer). giveDigestOf (r .0) (r .1)) (λ r. r .2) givenDigests
+  pub complete :
+      Agree {A = State}
+      (λ (r : ℕ × ℕ × List ℕ × ℕ). stateOf
+      (handle (expecting (r .1) (r .2) (held 1 2 32 1 (r .0) 0 0)) (zeros 32) (0x00 ∷ []) (zeros 26) 0 (found (fragment 0x00 0 (0x41 ∷ [])))))
+      (λ r. (expecting (r .1) (r .2) (held (r .3) 2 32 1 (r .0) 1 1), 0x41 ∷ zeros 31, 0x01 ∷ []))
+      completed
+  pub digest-after :
+      Agree
+      (λ (r : Device × DeviceMessage × Device). (handle (r .0) (places 0 0x42 0) (0x02 ∷ []) (zeros 26) 0 (found (r .1))) .device)
+      (λ r. r .2)
+      digestAfter
   pub finish : Agree (λ (r : Device × ℕ × Finished). installFinishedOf (r .0) (r .1)) (λ r. r .2) finished
   pub give-order :
       Agree

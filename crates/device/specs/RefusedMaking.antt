@@ -8,7 +8,7 @@ use Rattle.basis.specs.Numbers.{badRecord}
 use Rattle.codec.specs.Codec.{Sent, unsent}
 use Rattle.device_record.specs.declared.Device.{Device}
 use Rattle.device_record.specs.Record.{newOf}
-use Rattle.device.specs.Rules.{After, refuse, receiveOf, nextMessageOf, installFinishedOf}
+use Rattle.device.specs.Rules.{After, refuse, receiveOf, nextMessageOf, installFinishedOf, giveDigestOf}
 
 -- every call with the record answers a number other than 0, and changes nothing
 pub record Unusable (d : Device) : Type 0 where
@@ -18,6 +18,7 @@ pub record Unusable (d : Device) : Type 0 where
   pub next-message : (image map reply : List ℕ) → let s : Sent = nextMessageOf d image map reply in
       (s .number ≢ 0) × (s ≡ unsent (s .number) reply)
   pub install-finished : (code : ℕ) → installFinishedOf d code ≡ record { number = badRecord; device = d }
+  pub give-digest : (digest : List ℕ) → giveDigestOf d digest ≡ record { number = badRecord; device = d }
 
 abbrev pub RefusedMaking : Type 0
 RefusedMaking = (version : List ℕ) → newOf version .number ≢ 0 → Unusable (newOf version .device)

@@ -1,4 +1,4 @@
--- The device's steps: 01, "The head", with the refusals of "Numbers returned" in their order, as 02 (2026-06) amends them. Assumes nothing.
+-- The device's steps: 01, "The head", with the refusals of "Numbers returned" in their order, as 02 (2026-05, 2026-06) amends them. Assumes nothing.
 use Prim.Native.Nat.{ℕ, _+_, _*_}
 use mathlib.Core.Bool.{Bool}
 use mathlib.Core.List.{List}
@@ -12,13 +12,16 @@ use Rattle.message.specs.Messages.{fragmentRequest, downloadReport, executeRepl
 use Rattle.codec.specs.Codec.{Sent, bytesOf, readOf, said}
 use Rattle.message.specs.declared.Fields.{Fields}
 use Rattle.device_record.specs.declared.Device.{Device}
-use Rattle.device_record.specs.Record.{idle, loading, loaded, acked, failed, installing, reporting, inPhase, begun, withFragment, withOutcome, mapBytes}
-use Rattle.device_record.specs.Record.{receiveRefusal, askRefusal, finishRefusal}
+use Rattle.device_record.specs.Record.{idle, loading, loaded, acked, failed, installing, reporting, inPhase, begun, withFragment, withOutcome}
+use Rattle.device_record.specs.Record.{withDigest, mapBytes}
+use Rattle.device_record.specs.Record.{receiveRefusal, askRefusal, finishRefusal, giveRefusal}
 use Rattle.bitmap.specs.Bitmap.{mark, cleared, lowestMissing}
 use Rattle.device.specs.declared.Finished.{Finished}
+use Rattle.device.specs.declared.DigestAnswer.{DigestAnswer}
 use Rattle.device_decisions.specs.Decisions.{lastAfter}
 unfoldable pub use Rattle.device_decisions.specs.Decisions.{announceResult, sameFields, resumes, fragmentLength}
-unfoldable pub use Rattle.device_decisions.specs.Decisions.{repeatRefusal, fragmentRefusal, passes, completion, executeResult}
+unfoldable pub use Rattle.device_decisions.specs.Decisions.{repeatRefusal, fragmentRefusal, checkPasses, digestPasses, passes, completion}
+unfoldable pub use Rattle.device_decisions.specs.Decisions.{executeResult}
 
 -- what a call leaves: the number, the length of the reply, the record, and the three buffers
 pub record After : Type 0 where
@@ -66,7 +69,7 @@ module _ (d : Device) (image map reply : List ℕ) where
       let stored : ℕ = d .stored + 1 in
       let last : ℕ = lastAfter f index (length bytes) (d .last) in
       let filled : List ℕ = patched (index * f .size) bytes image in
-      movedWith filled (mark index map) (withFragment (completion stored last f filled) stored last d)
+      movedWith filled (mark index map) (withFragment (completion stored last f (d .expected) filled) stored last d)
 
   -- ---- the six messages
 
@@ -152,3 +155,11 @@ installFinishedOf d code =
     pick (eqb n handled)
     (record { number = handled; device = withOutcome code (pick (eqb code 0x00) (d .fields .version) (d .running)) d })
     (record { number = n; device = d })
+
+-- ---- a digest given for the download held
+
+-- 29, 9; it takes the place of one that was given before
+unfoldable pub giveDigestOf : Device → (digest : List ℕ) → DigestAnswer
+giveDigestOf d digest =
+    let n : ℕ = giveRefusal d in
+    pick (eqb n handled) (record { number = handled; device = withDigest digest d }) (record { number = n; device = d })

@@ -107,7 +107,7 @@ fn store(device: Device, index: u16, content: &[u8], image: &mut [u8], map: &mut
     bitmap::mark(map, index as usize);
     let last = last_after(device, index, content.len() as u16);
     let stored = device.stored + 1;
-    let phase = completion(stored, last, fields, image);
+    let phase = completion(device, stored, last, image);
     moved(with_fragment(device, phase, stored, last))
 }
 

@@ -5,6 +5,7 @@ mod steps;
 
 pub use device_record::Device;
 pub use device_record::Made;
+pub use steps::give_digest;
 pub use steps::install_finished;
 pub use steps::next_message;
 pub use steps::receive;
@@ -13,6 +14,12 @@ pub use steps::receive;
 pub struct Answer {
     pub number: u8,
     pub length: usize,
+    pub device: Device,
+}
+
+// What a digest that is given is answered with: the number, and the device after it.
+pub struct DigestAnswer {
+    pub number: u8,
     pub device: Device,
 }
 

@@ -1,5 +1,7 @@
-// The calls: a message is given and led to its handler, the next one is asked for, the installer ends.
+// The calls: a message is given and led to its handler, the next one is asked for, the installer
+// ends, a digest is given.
 use crate::Answer;
+use crate::DigestAnswer;
 use crate::Finished;
 use crate::handlers::on_announce;
 use crate::handlers::on_download_reply;
@@ -26,7 +28,7 @@ ghost use Rattle.message.specs.Messages.{toDevice};
 ghost use Rattle.message.specs.Enums.{deviceMessage, gatewayMessage};
 ghost use Rattle.codec.specs.Answers.{sent, OfCode};
 ghost use Rattle.device_record.specs.Record.{reporting};
-ghost use Rattle.device.specs.Rules.{handle, receiveOf, wanted, nextMessageOf, installFinishedOf};
+ghost use Rattle.device.specs.Rules.{handle, receiveOf, wanted, nextMessageOf, installFinishedOf, giveDigestOf};
 ghost use Rattle.device.specs.Answers.{afterCall};
 ghost use Rattle.device.specs.Inner.{Guarded};
 
@@ -151,5 +153,19 @@ pub fn install_finished(device: Device, code: u8) -> Finished
     Finished {
         number: HANDLED,
         device: device_record::with_outcome(device, code),
+    }
+}
+
+// A digest is given, which the completed bytes of the download held must have.
+pub fn give_digest(device: Device, digest: [u8; 16]) -> DigestAnswer
+    ensures { λ r. ⌜ r ≡ giveDigestOf device digest ⌝ }
+{
+    let number = device_record::giving(device);
+    if number != HANDLED {
+        return DigestAnswer { number, device };
+    }
+    DigestAnswer {
+        number: HANDLED,
+        device: device_record::with_digest(device, digest),
     }
 }

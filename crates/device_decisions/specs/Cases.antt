@@ -1,13 +1,14 @@
 -- The device's decisions in computed cases: the tests of 20 and their order, resume, the length of a fragment, the refusals of one and of its
--- repeat, the phase once all are stored, and 23. What a row says is written from 01, "The head", as 02 (2026-06) amends it. Assumes nothing.
+-- repeat, the phase once all are stored, and 23. What a row says is written from 01, "The head", as 02 (2026-05, 2026-06) amends it. Assumes nothing.
 use Prim.Native.Nat.{ℕ}
 use mathlib.Core.Bool.{Bool, true, false}
 use mathlib.Core.List.{List, [], _∷_, _++_, map}
-use lib.ListN.{take, replicate}
+use lib.ListN.{take, drop, replicate}
 use Rattle.basis.specs.Cases.{Agree}
 use Rattle.message.specs.Cases.{text}
 use Rattle.message.specs.declared.Fields.{Fields}
 use Rattle.device_record.specs.declared.Device.{Device}
+use Rattle.device_record.specs.Record.{noDigest}
 use Rattle.device_record.specs.Cases.{device}
 use Rattle.device_decisions.specs.Decisions.{announceResult, resumes, fragmentLength, fragmentRefusal, completion, executeResult}
 
@@ -115,7 +116,14 @@ tested =
     (1, 1, 0x03, [], 11) ∷
     []
 
--- 21: stored count, last length, check code; the phase. The check of the first 33 bytes is 7281, that of all 64 is C7AE
+-- the MD5 of the image's first 33 bytes, and that of all 64
+abbrev pub digest33 : List ℕ
+digest33 = 0xB0 ∷ 0x69 ∷ 0x88 ∷ 0x59 ∷ 0xF3 ∷ 0xC1 ∷ 0x94 ∷ 0xB4 ∷ 0x67 ∷ 0xCB ∷ 0x26 ∷ 0x9A ∷ 0x3C ∷ 0x54 ∷ 0x6B ∷ 0xEC ∷ []
+
+abbrev pub digest64 : List ℕ
+digest64 = 0x58 ∷ 0x66 ∷ 0x88 ∷ 0xEF ∷ 0xF8 ∷ 0x88 ∷ 0x92 ∷ 0xB7 ∷ 0xB3 ∷ 0x8A ∷ 0x47 ∷ 0xC7 ∷ 0x18 ∷ 0x3C ∷ 0xB4 ∷ 0xD5 ∷ []
+
+-- 21: stored count, last length, check code; the phase, where no digest is set. The check of the first 33 bytes is 7281, that of all 64 is C7AE
 abbrev pub completed : List (ℕ × ℕ × ℕ × ℕ)
 completed =
     (1, 1, 0x0000, 1) ∷  -- one is missing
@@ -124,6 +132,21 @@ completed =
     (2, 1, 0xC7AE, 4) ∷  -- the check of whole fragments
     (2, 32, 0xC7AE, 2) ∷
     (2, 32, 0x7281, 4) ∷
+    []
+
+-- 21, all stored: last length, check code, whether a digest is set, and which; the phase
+abbrev pub withDigests : List (ℕ × ℕ × ℕ × List ℕ × ℕ)
+withDigests =
+    (1, 0x0000, 1, digest33, 2) ∷
+    (1, 0x7281, 1, digest33, 2) ∷
+    (1, 0xC7AE, 1, digest33, 4) ∷  -- the digest does not stand for the check
+    (1, 0x7281, 1, digest64, 4) ∷  -- that of whole fragments
+    (1, 0x0000, 1, digest64, 4) ∷  -- with no code the digest counts too
+    (32, 0xC7AE, 1, digest64, 2) ∷
+    (1, 0x0000, 1, 0xB1 ∷ drop 1 digest33, 4) ∷  -- one bit of the first byte, and of the last
+    (1, 0x0000, 1, take 15 digest33 ++ (0xED ∷ []), 4) ∷
+    (1, 0x0000, 1, replicate 16 0x00, 4) ∷  -- zeros, set, are a digest
+    (1, 0x0000, 0, digest64, 2) ∷  -- not set
     []
 
 -- 23: phase; the answers with conditions 0, 1, 2, 4 and 127
@@ -151,5 +174,10 @@ pub record DecisionCases : Type 0 where
       (λ (r : ℕ × ℕ × ℕ × List ℕ × ℕ). fragmentRefusal (fields 2 32 2 7) (r .0) (r .1) image (r .2 ∷ []) (r .3))
       (λ r. r .4)
       tested
-  pub complete : Agree (λ (r : ℕ × ℕ × ℕ × ℕ). completion (r .0) (r .1) (fields 2 32 2 (r .2)) image) (λ r. r .3) completed
+  pub complete : Agree (λ (r : ℕ × ℕ × ℕ × ℕ). completion (r .0) (r .1) (fields 2 32 2 (r .2)) noDigest image) (λ r. r .3) completed
+  pub complete-with-digest :
+      Agree
+      (λ (r : ℕ × ℕ × ℕ × List ℕ × ℕ). completion 2 (r .0) (fields 2 32 2 (r .1)) (record { set = r .2; digest = r .3 }) image)
+      (λ r. r .4)
+      withDigests
   pub execute : Agree (λ (r : ℕ × List ℕ). map (executeResult (r .0)) (0 ∷ 1 ∷ 2 ∷ 4 ∷ 127 ∷ [])) (λ r. r .1) executed

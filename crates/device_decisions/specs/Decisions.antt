@@ -1,4 +1,4 @@
--- The tests of an announcement, of a fragment and of an order to install: 01, "The head", as 02 (2026-06) amends it. Assumes nothing.
+-- The tests of an announcement, of a fragment and of an order to install: 01, "The head", as 02 (2026-05, 2026-06) amends it. Assumes nothing.
 use Prim.Native.Nat.{ℕ, _+_, _*_, _-_}
 use mathlib.Core.Bool.{Bool, _&&_, _||_, not}
 use mathlib.Core.List.{List, [], _∷_}
@@ -9,8 +9,10 @@ use Rattle.basis.specs.Numbers.{badIndex, badFragmentLength, alreadyStored, rep
 use Rattle.basis.specs.Bytes.{same}
 use Rattle.checksum.specs.Check.{checkOf}
 use Rattle.bitmap.specs.Bitmap.{marked}
+use Rattle.md5.specs.Md5.{md5Of}
 use Rattle.message.specs.declared.Fields.{Fields}
 use Rattle.device_record.specs.declared.Device.{Device}
+use Rattle.device_record.specs.declared.Expected.{Expected}
 use Rattle.device_record.specs.Record.{allStored, loading, loaded, acked, failed, installing, holding, mapBytes}
 
 -- 20: what it is answered with, tests in order
@@ -62,19 +64,27 @@ fragmentRefusal f last index image map bytes =
     (repeatRefusal f last index image bytes, not (marked map index))
     ∷ [])
 
--- the completed bytes pass where the code is 0 or their check
-unfoldable pub passes : (code : ℕ) → List ℕ → Bool
-passes code bytes = eqb code 0 || eqb code (checkOf bytes)
+-- the code is 0, or the bytes' check
+unfoldable pub checkPasses : (code : ℕ) → List ℕ → Bool
+checkPasses code bytes = eqb code 0 || eqb code (checkOf bytes)
+
+-- no digest is set, or it is the bytes' MD5 (02, 2026-05)
+unfoldable pub digestPasses : Expected → List ℕ → Bool
+digestPasses expected bytes = eqb (expected .set) 0 || same (md5Of bytes) (expected .digest)
+
+-- the completed bytes pass both
+unfoldable pub passes : (code : ℕ) → Expected → List ℕ → Bool
+passes code expected bytes = checkPasses code bytes && digestPasses expected bytes
 
 -- all fragments, true length: `last` is that of the last one
 abbrev pub trueLength : Fields → (last : ℕ) → ℕ
 trueLength f last = f .size * (f .total - 1) + last
 
 -- the phase once a fragment is stored
-unfoldable pub completion : (stored last : ℕ) → Fields → (image : List ℕ) → ℕ
-completion stored last f image =
+unfoldable pub completion : (stored last : ℕ) → Fields → Expected → (image : List ℕ) → ℕ
+completion stored last f expected image =
     pick (allStored stored (f .total))
-    (pick (passes (f .code) (take (trueLength f last) image)) loaded failed)
+    (pick (passes (f .code) expected (take (trueLength f last) image)) loaded failed)
     loading
 
 -- 23: what it is answered with

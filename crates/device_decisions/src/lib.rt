@@ -1,6 +1,6 @@
 // What the device decides of the messages that it is given: the tests of 20, 21 and 23 (01, "The
-// head", as 02, 2026-06, amends it), each by itself, over the record and plain values. Nothing is
-// written here.
+// head", as 02, 2026-05 and 2026-06, amends it), each by itself, over the record and plain values.
+// Nothing is written here.
 use basis::least;
 use basis::number::ALREADY_STORED;
 use basis::number::BAD_FRAGMENT_LENGTH;
@@ -12,6 +12,7 @@ use basis::pick;
 use basis::product;
 use basis::same_bytes;
 use device_record::Device;
+use device_record::Expected;
 use device_record::holding;
 use device_record::map_bytes;
 use message::Fields;
@@ -19,7 +20,7 @@ ghost use mathlib.Core.Path.{_≡_};
 ghost use lib.Dec.{eqb, leb};
 ghost use Rattle.basis.specs.Choice.{pick};
 ghost use Rattle.device_decisions.specs.Decisions.{announceResult, sameFields, resumes, fragmentLength, repeatRefusal, fragmentRefusal};
-ghost use Rattle.device_decisions.specs.Decisions.{byIndex, lastAfter, passes, trueLength, completion, executeResult};
+ghost use Rattle.device_decisions.specs.Decisions.{byIndex, lastAfter, checkPasses, digestPasses, passes, trueLength, completion, executeResult};
 
 // 20: what an announcement is answered with, tests in order.
 pub fn announce_result(
@@ -108,14 +109,36 @@ pub fn fragment_refusal(
     repeat_refusal(fields, last, index, image, content)
 }
 
-// The completed bytes pass: the package has no check code, or it is theirs.
-fn passes(code: u16, bytes: &[u8]) -> bool
-    ensures { λ r. ⌜ r ≡ passes code (now (bytes .entry)) ⌝ }
+// The package has no check code, or it is that of the bytes.
+fn check_passes(code: u16, bytes: &[u8]) -> bool
+    ensures { λ r. ⌜ r ≡ checkPasses code (now (bytes .entry)) ⌝ }
 {
     if code == 0 {
         return true;
     }
     code == checksum::check(bytes)
+}
+
+// No digest is set, or it is that of the bytes. The flag says so, never the digest's value.
+fn digest_passes(expected: Expected, bytes: &[u8]) -> bool
+    ensures { λ r. ⌜ r ≡ digestPasses expected (now (bytes .entry)) ⌝ }
+{
+    if expected.set == 0 {
+        return true;
+    }
+    let digest = md5::digest(bytes);
+    let wanted = expected.digest;
+    same_bytes(&digest, &wanted)
+}
+
+// The completed bytes pass both. The digest is worked out only where the check has passed.
+fn passes(code: u16, expected: Expected, bytes: &[u8]) -> bool
+    ensures { λ r. ⌜ r ≡ passes code expected (now (bytes .entry)) ⌝ }
+{
+    if !check_passes(code, bytes) {
+        return false;
+    }
+    digest_passes(expected, bytes)
 }
 
 // Where the package ends: every fragment but the last is size long.
@@ -130,15 +153,17 @@ fn true_length(fields: Fields, last: u16) -> usize
 }
 
 // 21: the phase once a fragment is stored. The package ends where its last fragment does.
-pub fn completion(stored: u16, last: u16, fields: Fields, image: &[u8]) -> u8
-    ensures { λ r. ⌜ r ≡ completion stored last fields (now (image .entry)) ⌝ }
+pub fn completion(device: Device, stored: u16, last: u16, image: &[u8]) -> u8
+    ensures { λ r. ⌜ r ≡ completion stored last (device .fields) (device .expected) (now (image .entry)) ⌝ }
 {
+    let fields = device.fields;
+    let expected = device.expected;
     let total = fields.total;
     if stored != total {
         return Device::LOADING;
     }
     let end = least(image.len(), true_length(fields, last));
-    if passes(fields.code, &image[0..end]) {
+    if passes(fields.code, expected, &image[0..end]) {
         Device::LOADED
     } else {
         Device::FAILED

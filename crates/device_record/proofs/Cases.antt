@@ -10,4 +10,4 @@ use Rattle.device_record.specs.Cases.{RecordCases}
 pub record-cases : RecordCases
 unfolding pick oneOf sizeOk totalOk versionCharacter front allZero goodVersion installCode
     holding conditionOk newOf downloadOk recordOk mapBytes memoryOk
-record-cases = record { number-is = refl; made = refl; record-is = refl; map-needs = refl; room-is = refl }
+record-cases = record { number-is = refl; made = refl; record-is = refl; flag-is = refl; map-needs = refl; room-is = refl }

@@ -28,6 +28,7 @@ pub record Ranged (d : Device) : Type 0 where
 pub record Kept (d : Device) : Type 0 where
   pub phase : d .phase ≤ reporting
   pub outcome : installCode (d .outcome) ≡ true
+  pub flag : d .expected .set ≤ 1
   pub running : goodVersion (d .running) ≡ true
   pub target : goodVersion (d .fields .version) ≡ true
   pub ranged : (d .phase ≡ idle → ⊥) → Ranged d
@@ -58,15 +59,17 @@ module _ (d : Device) where
   pub record-kept : recordOk d ≡ true → Kept d
   unfolding recordOk
   record-kept e =
-      let first : (leb (d .phase) reporting && installCode (d .outcome)) ≡ true = and-left _ _ e in
+      let first : (leb (d .phase) reporting && (installCode (d .outcome) && leb (d .expected .set) 1)) ≡ true = and-left _ _ e in
+      let kept : (installCode (d .outcome) && leb (d .expected .set) 1) ≡ true = and-right (leb (d .phase) reporting) _ first in
       let rest : ((goodVersion (d .running) && goodVersion (d .fields .version)) && pick (eqb (d .phase) idle) true (downloadOk d)) ≡ true =
-      and-right (leb (d .phase) reporting && installCode (d .outcome)) _ e in
+      and-right (leb (d .phase) reporting && (installCode (d .outcome) && leb (d .expected .set) 1)) _ e in
       let texts : (goodVersion (d .running) && goodVersion (d .fields .version)) ≡ true = and-left _ _ rest in
       let download : pick (eqb (d .phase) idle) true (downloadOk d) ≡ true =
       and-right (goodVersion (d .running) && goodVersion (d .fields .version)) _ rest in
       record {
         phase = leb-true (d .phase) reporting (and-left _ _ first);
-        outcome = and-right (leb (d .phase) reporting) _ first;
+        outcome = and-left _ _ kept;
+        flag = leb-true (d .expected .set) 1 (and-right (installCode (d .outcome)) _ kept);
         running = and-left _ _ texts;
         target = and-right (goodVersion (d .running)) _ texts;
         ranged = λ p. by-cases (λ (t : Bool). t ≡ true → Ranged d) (λ i _. absurd (p (eqb-true (d .phase) idle i))) (λ _. download-ranged) download;

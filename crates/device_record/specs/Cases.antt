@@ -1,16 +1,16 @@
 -- The device's record in computed cases: the phases that hold a download, the conditions, the making (17), and the tests of 29 and 14.
--- What a row says is written from 01, "The head" and "Numbers returned", as 02 (2026-04, 2026-08) amends it. Assumes nothing.
+-- What a row says is written from 01, "The head" and "Numbers returned", as 02 (2026-04, 2026-05, 2026-08) amends it. Assumes nothing.
 use Prim.Native.Nat.{ℕ}
 use mathlib.Core.Bool.{Bool, true, false}
-use mathlib.Core.List.{List, [], _∷_}
+use mathlib.Core.List.{List, [], _∷_, map}
 use lib.ListN.{replicate}
 use Rattle.basis.specs.Cases.{Agree, allowed}
 use Rattle.message.specs.Cases.{text, noText, slashedText}
 use Rattle.device_record.specs.declared.Device.{Device}
 use Rattle.device_record.specs.declared.Made.{Made}
-use Rattle.device_record.specs.Record.{holding, conditionOk, newOf, recordOk, mapBytes, memoryOk}
+use Rattle.device_record.specs.Record.{noDigest, holding, conditionOk, newOf, recordOk, mapBytes, memoryOk}
 
--- phase; running version; target version, size, total, check code; stored count, last length, kept code
+-- phase; running version; target version, size, total, check code; stored count, last length, kept code; no digest is set
 abbrev pub device : ℕ → List ℕ → List ℕ → (size total code stored last outcome : ℕ) → Device
 device phase running target size total code stored last outcome =
     record {
@@ -20,6 +20,7 @@ device phase running target size total code stored last outcome =
       stored = stored;
       last = last;
       outcome = outcome;
+      expected = noDigest;
     }
 
 -- the numbers that a test allows
@@ -72,6 +73,19 @@ kept =
     (device 7 (text 1) (text 2) 32 9 0 9 0 0x00, false) ∷
     []
 
+-- a record whose flag is `set`, beside a digest of bytes FF
+abbrev pub flagged : (phase set : ℕ) → Device
+flagged phase set =
+    record {
+      phase = phase;
+      running = text 1;
+      fields = record { version = text 2; size = 32; total = 9; code = 0 };
+      stored = 3;
+      last = 0;
+      outcome = 0x00;
+      expected = record { set = set; digest = replicate 16 0xFF };
+    }
+
 -- a total, and its map bytes
 abbrev pub maps : List (ℕ × ℕ)
 maps = (1, 1) ∷ (8, 1) ∷ (9, 2) ∷ (65535, 8192) ∷ []
@@ -97,6 +111,12 @@ pub record RecordCases : Type 0 where
   pub number-is : Agree (λ (r : (ℕ → Bool) × List ℕ). allowed (r .0)) (λ r. r .1) numbers
   pub made : Agree (λ (r : List ℕ × Made). newOf (r .0)) (λ r. r .1) making
   pub record-is : Agree (λ (r : Device × Bool). recordOk (r .0)) (λ r. r .1) kept
+  -- whether a digest is set is 0 or 1, in every phase
+  pub flag-is :
+      Agree
+      (λ (phase : ℕ). map (λ (set : ℕ). recordOk (flagged phase set)) (0 ∷ 1 ∷ 2 ∷ 255 ∷ []))
+      (λ _. true ∷ true ∷ false ∷ false ∷ [])
+      (0 ∷ 1 ∷ 2 ∷ 3 ∷ 4 ∷ 5 ∷ 6 ∷ [])
   pub map-needs : Agree (λ (r : ℕ × ℕ). mapBytes (r .0)) (λ r. r .1) maps
   pub room-is :
       Agree

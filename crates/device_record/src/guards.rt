@@ -16,7 +16,7 @@ ghost use mathlib.Core.Path.{_≡_};
 ghost use mathlib.Core.List.{[], _∷_};
 ghost use Rattle.basis.specs.Choice.{refusal};
 ghost use Rattle.basis.specs.Numbers.{badMemory, badRecord};
-ghost use Rattle.device_record.specs.Record.{recordOk, memoryOk, receiveRefusal, askRefusal, finishRefusal};
+ghost use Rattle.device_record.specs.Record.{recordOk, memoryOk, receiveRefusal, askRefusal, finishRefusal, giveRefusal};
 
 // The record and the buffers that are lent.
 fn lent(device: Device, image: &[u8], map: &[u8]) -> u8
@@ -60,4 +60,13 @@ pub fn finishing(device: Device, code: u8) -> u8
         BAD_RECORD,
         unless(installing, NO_USE, unless(known, BAD_INSTALL_CODE, HANDLED)),
     )
+}
+
+// A digest is given: 29, 9.
+pub fn giving(device: Device) -> u8
+    ensures { λ r. ⌜ r ≡ giveRefusal device ⌝ }
+{
+    let kept = record_ok(device);
+    let loading = device.phase == Device::LOADING;
+    unless(kept, BAD_RECORD, unless(loading, NO_USE, HANDLED))
 }

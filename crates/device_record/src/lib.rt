@@ -12,6 +12,7 @@ mod record;
 
 pub use guards::asking;
 pub use guards::finishing;
+pub use guards::giving;
 pub use guards::receiving;
 pub use record::begun;
 pub use record::condition_ok;
@@ -20,8 +21,16 @@ pub use record::in_phase;
 pub use record::map_bytes;
 pub use record::memory_ok;
 pub use record::record_ok;
+pub use record::with_digest;
 pub use record::with_fragment;
 pub use record::with_outcome;
+
+// The digest that the completed bytes must have, where one was given (02, 2026-05).
+pub struct Expected {
+    // 0: none was given, and the digest is zeros; 1: this one.
+    pub set: u8,
+    pub digest: [u8; 16],
+}
 
 // What the device keeps between calls. The host keeps it, and lends it by value to every call.
 pub struct Device {
@@ -36,6 +45,8 @@ pub struct Device {
     pub last: u16,
     // The code with which the installer ended (01: kept code).
     pub outcome: u8,
+    // What the completed bytes must pass beside the package's code.
+    pub expected: Expected,
 }
 
 // What making a device answers: 0 and the device, or 17 and a record that every call refuses.

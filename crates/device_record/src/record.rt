@@ -1,17 +1,29 @@
 // The record of the device: how it is made anew, whether it keeps the rules (29), and the room that
 // it needs (14).
 use crate::Device;
+use crate::Expected;
 use message::Fields;
 ghost use mathlib.Core.Path.{_≡_};
 ghost use lib.Dec.{eqb};
 ghost use Rattle.basis.specs.Choice.{pick};
 ghost use Rattle.device_record.specs.Record.{fresh, inPhase, begun, withFragment, withOutcome, holding, conditionOk, downloadOk, recordOk, mapBytes};
-ghost use Rattle.device_record.specs.Record.{memoryOk};
+ghost use Rattle.device_record.specs.Record.{noDigest, digestSet, withDigest, memoryOk};
+
+// No digest.
+fn no_digest() -> Expected
+    ensures { λ r. ⌜ r ≡ noDigest ⌝ }
+{
+    Expected {
+        set: 0,
+        digest: [0u8; 16],
+    }
+}
 
 // Idle, with a version that runs and is the target too.
 pub(crate) fn fresh(version: [u8; 16]) -> Device
     ensures { λ r. ⌜ r ≡ fresh version ⌝ }
 {
+    let expected = no_digest();
     Device {
         phase: Device::IDLE,
         running: version,
@@ -24,6 +36,7 @@ pub(crate) fn fresh(version: [u8; 16]) -> Device
         stored: 0,
         last: 0,
         outcome: 0,
+        expected,
     }
 }
 
@@ -45,6 +58,8 @@ pub fn begun(device: Device, fields: Fields) -> Device
     next.fields = fields;
     next.stored = 0;
     next.last = 0;
+    let expected = no_digest();
+    next.expected = expected;
     next
 }
 
@@ -71,6 +86,16 @@ pub fn with_outcome(device: Device, code: u8) -> Device
         let target = fields.version;
         next.running = target;
     }
+    next
+}
+
+// A digest given, in the place of one that was given before.
+pub fn with_digest(device: Device, digest: [u8; 16]) -> Device
+    ensures { λ r. ⌜ r ≡ withDigest digest device ⌝ }
+{
+    let mut next = device;
+    let expected = Expected { set: 1, digest };
+    next.expected = expected;
     next
 }
 
@@ -111,7 +136,9 @@ pub fn record_ok(device: Device) -> bool
     let running = device.running;
     let fields = device.fields;
     let target = fields.version;
-    ((phase <= Device::REPORTING) & message::install_code(device.outcome))
+    let expected = device.expected;
+    let set_ok = expected.set <= 1;
+    ((phase <= Device::REPORTING) & (message::install_code(device.outcome) & set_ok))
         & ((message::good_version(running) & message::good_version(target))
             & ((phase == Device::IDLE) | download_ok(device)))
 }

@@ -34,7 +34,7 @@ passes-requires c κs = search needs
 returns-2 : tie.Need-returns-2
 unfolding completion
 returns-2 c =
-    let s = c .before .before .before .before .before .before .before in
+    let s = c .before .before .before .before .before .before .before .before .before in
     let end = rw (c .before .before .before .before .true-length .ensures) at (c .before .before .before .least .ensures) in
     let tested = rw (sub-zero, take-least (s .args .image .now) _ _ end) at (c .before .passes .ensures) in
     sym (pick-yes _ _ _ (eq-eqb _ _ (c .before .before .before .before .before .if1 .left)) ∙ pick-yes _ _ _ (sym tested ∙ c .if2 .taken))
@@ -42,7 +42,7 @@ returns-2 c =
 returns-3 : tie.Need-returns-3
 unfolding completion
 returns-3 c =
-    let s = c .before .before .before .before .before .before .before in
+    let s = c .before .before .before .before .before .before .before .before .before in
     let end = rw (c .before .before .before .before .true-length .ensures) at (c .before .before .before .least .ensures) in
     let tested = rw (sub-zero, take-least (s .args .image .now) _ _ end) at (c .before .passes .ensures) in
     sym (pick-yes _ _ _ (eq-eqb _ _ (c .before .before .before .before .before .if1 .left)) ∙ pick-no _ _ _ (sym tested ∙ c .if2 .left))
