@@ -10,10 +10,11 @@ use Rattle.gateway_record.specs.declared.Gateway.{Gateway}
 use Rattle.gateway_record.specs.Record.{packageFields}
 use Rattle.layout.specs.Layout.{deviceBytes, deviceAt, deviceLength, gatewayBytes, gatewayAt, gatewayLength}
 
--- a record's version texts have 16 bytes each, as in the code
+-- a record's version texts and its digest have 16 bytes each, as in the code
 pub record DeviceTexts (d : Device) : Type 0 where
   pub running : length (d .running) ≡ 16
   pub target : length (d .fields .version) ≡ 16
+  pub digest : length (d .expected .digest) ≡ 16
 
 -- and the gateway's total is the one that follows from size and length, as a start makes it and every call keeps it
 pub record GatewayWhole (g : Gateway) : Type 0 where

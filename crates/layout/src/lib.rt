@@ -1,14 +1,16 @@
 // The records as bytes in a buffer that a host lends (docs/MANUAL.md has the layouts). Any bytes are
 // some record: whether it keeps the rules, the calls tell (29).
 use device_record::Device;
+use device_record::Expected;
 use gateway_record::Gateway;
 use message::Fields;
 ghost use mathlib.Core.Path.{_≡_};
 ghost use mathlib.Core.List.{[], _∷_, _++_};
 ghost use Prim.Native.Nat.{_≤_};
 ghost use lib.ListN.{length};
-ghost use Rattle.basis.specs.Bytes.{wordBytes, over};
-ghost use Rattle.layout.specs.Layout.{deviceAt, deviceBytes, deviceLength, longAt, longBytes, gatewayAt, gatewayBytes, gatewayLength, kept};
+ghost use Rattle.basis.specs.Bytes.{wordBytes, qwordBytes, over, patched};
+ghost use Rattle.layout.specs.Layout.{deviceAt, frontBytes, frontLength, expectedBytes, deviceBytes, deviceLength};
+ghost use Rattle.layout.specs.Layout.{gatewayAt, gatewayBytes, gatewayLength, kept};
 
 // Where the parts of the device's record stand, each behind the one before: the phase first.
 const RUNNING: usize = 1;
@@ -21,7 +23,11 @@ const LAST: usize = STORED + 2;
 
 const OUTCOME: usize = LAST + 2;
 
-pub const DEVICE_LENGTH: usize = OUTCOME + 1;
+const DIGEST_SET: usize = OUTCOME + 1;
+
+const DIGEST: usize = DIGEST_SET + 1;
+
+pub const DEVICE_LENGTH: usize = DIGEST + 16;
 
 // And of the gateway's: phase and ending number first.
 const GATEWAY_VERSION: usize = 2;
@@ -40,6 +46,11 @@ pub fn device_at(bytes: &[u8]) -> Device
 {
     let running = message::version_at(bytes, RUNNING);
     let fields = message::fields_at(bytes, FIELDS);
+    let digest = basis::sixteen_at(bytes, DIGEST);
+    let expected = Expected {
+        set: basis::byte_at(bytes, DIGEST_SET),
+        digest,
+    };
     Device {
         phase: basis::byte_at(bytes, 0),
         running,
@@ -47,6 +58,7 @@ pub fn device_at(bytes: &[u8]) -> Device
         stored: basis::word_at(bytes, STORED),
         last: basis::word_at(bytes, LAST),
         outcome: basis::byte_at(bytes, OUTCOME),
+        expected,
     }
 }
 
@@ -59,10 +71,10 @@ fn device_rest(stored: u16, last: u16, outcome: u8) -> [u8; 5]
     [count[0], count[1], length[0], length[1], outcome]
 }
 
-// The device's record into a buffer that has room for it.
-fn put_device(buffer: &mut [u8], device: Device)
-    requires { ⌜ deviceLength ≤ length (now buffer) ⌝ }
-    ensures { λ _. ⌜ now (buffer .exit) ≡ over (deviceBytes device) (now (buffer .entry)) ⌝ }
+// The device's record up to the digest, into a buffer that has room for it.
+fn put_front(buffer: &mut [u8], device: Device)
+    requires { ⌜ frontLength ≤ length (now buffer) ⌝ }
+    ensures { λ _. ⌜ now (buffer .exit) ≡ over (frontBytes device) (now (buffer .entry)) ⌝ }
 {
     let phase = [device.phase];
     let running = device.running;
@@ -74,6 +86,17 @@ fn put_device(buffer: &mut [u8], device: Device)
     basis::put(buffer, STORED, &rest);
 }
 
+// The digest, and whether it is set, behind it.
+fn put_expected(buffer: &mut [u8], expected: Expected)
+    requires { ⌜ deviceLength ≤ length (now buffer) ⌝ }
+    ensures { λ _. ⌜ now (buffer .exit) ≡ patched frontLength (expectedBytes expected) (now (buffer .entry)) ⌝ }
+{
+    let set = [expected.set];
+    let digest = expected.digest;
+    basis::put(buffer, DIGEST_SET, &set);
+    basis::put(buffer, DIGEST, &digest);
+}
+
 // The device's record as a call returned it, with whatever number; written only where there is room
 // for it.
 pub fn keep_device(buffer: &mut [u8], device: Device)
@@ -82,18 +105,9 @@ pub fn keep_device(buffer: &mut [u8], device: Device)
     if buffer.len() < DEVICE_LENGTH {
         return;
     }
-    put_device(buffer, device);
-}
-
-// The package length in the gateway's record.
-fn length_at(bytes: &[u8]) -> usize
-    ensures { λ r. ⌜ r ≡ longAt (now (bytes .entry)) 20 ⌝ }
-{
-    let a = basis::word_at(bytes, GATEWAY_PACKAGE_LENGTH) as usize;
-    let b = basis::word_at(bytes, GATEWAY_PACKAGE_LENGTH + 2) as usize;
-    let c = basis::word_at(bytes, GATEWAY_PACKAGE_LENGTH + 4) as usize;
-    let d = basis::word_at(bytes, GATEWAY_PACKAGE_LENGTH + 6) as usize;
-    ((a * 65536 + b) * 65536 + c) * 65536 + d
+    put_front(buffer, device);
+    let expected = device.expected;
+    put_expected(buffer, expected);
 }
 
 // The gateway's record that stands at the front of the bytes. A byte that is not there counts as 0.
@@ -103,7 +117,7 @@ pub fn gateway_at(bytes: &[u8]) -> Gateway
 {
     let version = message::version_at(bytes, GATEWAY_VERSION);
     let size = basis::word_at(bytes, GATEWAY_SIZE);
-    let length = length_at(bytes);
+    let length = basis::qword_at(bytes, GATEWAY_PACKAGE_LENGTH) as usize;
     let code = basis::word_at(bytes, GATEWAY_CODE);
     let fields = gateway_record::package_fields(version, size, length, code);
     Gateway {
@@ -114,23 +128,12 @@ pub fn gateway_at(bytes: &[u8]) -> Gateway
     }
 }
 
-// The package length as its four WORDs.
-fn long_bytes(n: usize) -> [u8; 8]
-    ensures { λ r. ⌜ r ≡ longBytes n ⌝ }
-{
-    let a = basis::word_bytes((n / 281474976710656) as u16);
-    let b = basis::word_bytes((n / 4294967296 % 65536) as u16);
-    let c = basis::word_bytes((n / 65536 % 65536) as u16);
-    let d = basis::word_bytes((n % 65536) as u16);
-    [a[0], a[1], b[0], b[1], c[0], c[1], d[0], d[1]]
-}
-
 // What stands behind the version text in the gateway's record.
 fn gateway_rest(size: u16, length: usize, code: u16) -> [u8; 12]
-    ensures { λ r. ⌜ r ≡ wordBytes size ++ (longBytes length ++ wordBytes code) ⌝ }
+    ensures { λ r. ⌜ r ≡ wordBytes size ++ (qwordBytes length ++ wordBytes code) ⌝ }
 {
     let s = basis::word_bytes(size);
-    let n = long_bytes(length);
+    let n = basis::qword_bytes(length as u64);
     let c = basis::word_bytes(code);
     [
         s[0],

@@ -6,8 +6,10 @@ use mathlib.Core.Bool.{Bool}
 use mathlib.Core.List.{List}
 use lib.Dec.{eqb, leb}
 use lib.ListN.{length}
-use borrow.Author.Tests.{le-leb, lt-leb}
+use borrow.Author.Tests.{le-leb, lt-leb, eq-eqb, ne-eqb}
 use Rattle.basis.specs.Choice.{pick}
+use Rattle.basis.specs.Numbers.{shortRecord}
+use Rattle.basis.specs.Bytes.{part}
 use Rattle.basis.proofs.Choosing.{pick-yes, pick-no}
 use Rattle.basis.proofs.Lists.{length-part}
 use Rattle.codec.specs.declared.Written.{Written}
@@ -18,6 +20,7 @@ use Rattle.device_record.specs.declared.Made.{Made}
 use Rattle.device_record.specs.Record.{newOf}
 use Rattle.device.specs.declared.Answer.{Answer}
 use Rattle.device.specs.declared.Finished.{Finished}
+use Rattle.device.specs.declared.DigestAnswer.{DigestAnswer}
 use Rattle.device.specs.Answers.{afterCall}
 use Rattle.device.specs.Rules as device
 use Rattle.gateway_record.specs.declared.Gateway.{Gateway}
@@ -27,8 +30,9 @@ use Rattle.gateway_record.specs.Record.{startOf}
 use Rattle.gateway.specs.Answers as gateway-answers
 use Rattle.gateway.specs.Rules as gateway
 use Rattle.layout.specs.Layout.{deviceAt, deviceLength, gatewayAt, gatewayLength}
-use Rattle.pcp.specs.Exports.{fact, packed, textOf, Left, Asked, DeviceGiven, GatewayGiven, askAnswer, deviceNewOf, deviceReceiveOf, deviceNextMessageOf}
-use Rattle.pcp.specs.Exports.{deviceInstallFinishedOf, deviceKept, gatewayKept, gatewayStartOf, gatewayReceiveOf, gatewayNextMessageOf}
+use Rattle.pcp.specs.Exports.{fact, packed, textOf, Left, Asked, DeviceGiven, GatewayGiven, askAnswer, deviceNewOf, deviceReceiveOf}
+use Rattle.pcp.specs.Exports.{deviceNextMessageOf, deviceInstallFinishedOf, deviceGiveDigestOf}
+use Rattle.pcp.specs.Exports.{deviceKept, gatewayKept, gatewayStartOf, gatewayReceiveOf, gatewayNextMessageOf}
 use Rattle.pcp.proofs.Fits.{device-reply-short, device-ask-short, gateway-reply-fits, gateway-ask-fits}
 
 -- ---- a record buffer that is too short, and one that is not
@@ -61,6 +65,22 @@ module _ (bytes after : List ℕ) (room : deviceLength ≤ length bytes) where
       ∙ ap (λ (n : Finished). record { answer = n .number; bytes = deviceKept bytes (n .device) })
       (e ∙ ap (λ (d : Device). device.installFinishedOf d code) at)
       ∙ long-enough deviceLength bytes _ _ room
+
+  -- a digest of another length
+  pub device-no-digest : (digest : List ℕ) → (length digest ≡ 16 → ⊥)
+      → _≡_ {A = Left} (record { answer = shortRecord; bytes = bytes }) (deviceGiveDigestOf bytes digest)
+  unfolding deviceGiveDigestOf
+  device-no-digest digest h = sym (pick-no _ _ _ (ne-eqb _ 16 h)) ∙ long-enough deviceLength bytes _ _ room
+
+  pub device-digest-given : (d : Device) (digest wanted : List ℕ) (g : DigestAnswer) → length digest ≡ 16 → d ≡ deviceAt bytes → wanted ≡ part digest 0 16
+      → g ≡ device.giveDigestOf d wanted → after ≡ deviceKept bytes (g .device)
+      → _≡_ {A = Left} (record { answer = g .number; bytes = after }) (deviceGiveDigestOf bytes digest)
+  unfolding deviceGiveDigestOf
+  device-digest-given d digest wanted g l at w e k =
+      (λ i. record { answer = g .number; bytes = k i })
+      ∙ ap (λ (n : DigestAnswer). record { answer = n .number; bytes = deviceKept bytes (n .device) })
+      (e ∙ (λ i. device.giveDigestOf (at i) (w i)))
+      ∙ sym (pick-yes _ _ _ (eq-eqb _ 16 l)) ∙ long-enough deviceLength bytes _ _ room
 
   pub device-given : (image map reply image′ map′ reply′ message : List ℕ) (supported pcp condition r : ℕ) (d : Device) (a : Answer) → d ≡ deviceAt bytes
       → afterCall a image′ map′ reply′ ≡ device.receiveOf d image map reply (fact supported) (fact pcp) condition message

@@ -3,3 +3,4 @@ pub mod ExportLaws
 pub mod Refusals
 pub mod Carrying
 pub mod CaptureItems
+pub mod DigestLaws

@@ -9,7 +9,7 @@ use lib.ListN.{length, getD, set}
 use borrow.Author.Tests.{ne-eqb, eqb-true, eqb-false, leb-true}
 use Rattle.basis.specs.Choice.{pick}
 use Rattle.basis.specs.Numbers.{repeatDiffers}
-use Rattle.basis.specs.Bytes.{Bytes, over}
+use Rattle.basis.specs.Bytes.{Bytes, part, over}
 use Rattle.basis.proofs.Choosing.{by-cases, pick-no, refusal-among}
 use Rattle.message.specs.Messages.{DeviceMessage, query, announce, fragment, downloadReply, execute, resultReply, GatewayMessage, queryReply, announceReply}
 use Rattle.message.specs.Messages.{fragmentRequest, downloadReport, executeReply, resultReport, Table, Reading, found, refused, toDevice, toGateway}
@@ -19,17 +19,22 @@ use Rattle.round_trips.proofs.RoundTrip.{device-round-trip, gateway-round-trip}
 use Rattle.device_record.specs.declared.Device.{Device}
 use Rattle.device_record.specs.Record.{loading, failed, inPhase}
 use Rattle.device.specs.declared.Finished.{Finished}
+use Rattle.device.specs.declared.DigestAnswer.{DigestAnswer}
 use Rattle.device.specs.Rules as device
 use Rattle.gateway_record.specs.declared.Gateway.{Gateway}
 use Rattle.gateway.specs.Rules as gateway
 use Rattle.capture.specs.Writing.{Wrote}
 use Rattle.capture.proofs.Written.{writing}
-use Rattle.layout.specs.Layout.{deviceBytes, deviceAt, deviceLength, gatewayAt, gatewayLength}
+use Rattle.layout.specs.Layout.{frontBytes, deviceBytes, deviceAt, deviceLength, gatewayAt, gatewayLength}
 use Rattle.layout.proofs.Identity.{identity}
 use Rattle.layout.proofs.Layouts.{kept-new}
+use Rattle.md5.specs.declared.Md5.{Md5}
+use Rattle.md5_layout.specs.Layout.{Kept, stateKept}
 use Rattle.pcp.specs.Exports.{fact, packed, Left, Asked, DeviceGiven, GatewayGiven, askAnswer, deviceNewOf, deviceReceiveOf, deviceNextMessageOf}
-use Rattle.pcp.specs.Exports.{deviceInstallFinishedOf, deviceKept, gatewayKept, gatewayStartOf, gatewayReceiveOf, gatewayNextMessageOf}
+use Rattle.pcp.specs.Exports.{deviceInstallFinishedOf, deviceGiveDigestOf, deviceKept, gatewayKept, gatewayStartOf, gatewayReceiveOf}
+use Rattle.pcp.specs.Exports.{gatewayNextMessageOf}
 use Rattle.pcp.specs.Captures.{captureWriteOf}
+use Rattle.pcp.specs.Digests.{left, digestWritten, md5DigestOf, md5NewOf, md5FeedOf, md5FinishOf}
 use Rattle.pcp.specs.Boundary.{numberIn, lengthIn, Refused, LeftAlone, Demand1}
 
 -- ---- refusals have numbers below 256, and all but one of them leave the record alone
@@ -56,7 +61,7 @@ device-back bytes b room = kept-new deviceLength _ bytes room ∙ identity .devi
 -- with another phase
 device-phase : (bytes : List ℕ) (phase : ℕ) → Bytes bytes → deviceLength ≤ length bytes
     → deviceKept bytes (inPhase phase (deviceAt bytes)) ≡ set bytes 0 phase
-unfolding deviceBytes over
+unfolding frontBytes deviceBytes over
 device-phase bytes phase b room =
     kept-new deviceLength (deviceBytes (inPhase phase (deviceAt bytes))) bytes room
     ∙ ap (λ (l : List ℕ). set l 0 phase) (identity .device-same bytes b room)
@@ -290,9 +295,22 @@ unfolding device.installFinishedOf
 finished-returned d code =
     by-cases (λ (f : Finished). (f .number ≡ 0 → ⊥) → f .device ≡ d) (λ _ h. absurd (h refl)) (λ _ _. refl)
 
+digest-returned : (d : Device) (digest : List ℕ) → (device.giveDigestOf d digest .number ≡ 0 → ⊥) → device.giveDigestOf d digest .device ≡ d
+unfolding device.giveDigestOf
+digest-returned d digest = by-cases (λ (g : DigestAnswer). (g .number ≡ 0 → ⊥) → g .device ≡ d) (λ _ h. absurd (h refl)) (λ _ _. refl)
+
+-- a state's buffer, and a digest's
+state-untouched : (bytes : List ℕ) (s : Md5) → Unkept bytes (left (stateKept bytes s))
+unfolding Unkept
+state-untouched bytes s = by-cases (λ (k : Kept). Unkept bytes (left k)) (λ _ h. absurd (h (omega arith))) (λ _ h. refl)
+
+digest-untouched : (digest new : List ℕ) → Unkept digest (digestWritten digest new)
+unfolding Unkept
+digest-untouched digest new = by-cases (Unkept digest) (λ _ h. absurd (h (omega arith))) (λ _ h. refl)
+
 pub demand-1 : Demand1
-unfolding deviceNewOf deviceReceiveOf deviceNextMessageOf deviceInstallFinishedOf gatewayStartOf gatewayReceiveOf gatewayNextMessageOf captureWriteOf
-    Unkept Unsaid DeviceUntouched DeviceFailed GatewayUntouched
+unfolding deviceNewOf deviceReceiveOf deviceNextMessageOf deviceInstallFinishedOf deviceGiveDigestOf gatewayStartOf gatewayReceiveOf
+    gatewayNextMessageOf captureWriteOf md5DigestOf md5NewOf md5FeedOf md5FinishOf Unkept Unsaid DeviceUntouched DeviceFailed GatewayUntouched
 demand-1 =
     record {
       device-new = λ bytes version. by-cases (Unkept bytes) (λ _ h. unmade _ _ bytes h) (λ _ h. refl);
@@ -309,6 +327,12 @@ demand-1 =
       device-install-finished = λ bytes code b.
           by-cases (Unkept bytes)
           (λ t h. ap (deviceKept bytes) (finished-returned (deviceAt bytes) code (λ z. h (omega arith))) ∙ device-back bytes b (leb-true _ _ t)) (λ _ h. refl);
+      device-give-digest = λ bytes digest b.
+          by-cases (Unkept bytes)
+          (λ t. by-cases (Unkept bytes)
+          (λ _ h. ap (deviceKept bytes) (digest-returned (deviceAt bytes) (part digest 0 16) (λ z. h (omega arith))) ∙ device-back bytes b (leb-true _ _ t))
+          (λ _ h. refl))
+          (λ _ h. refl);
       gateway-start = λ bytes version size content checked. by-cases (Unkept bytes) (λ _ h. unmade _ _ bytes h) (λ _ h. refl);
       gateway-receive = λ bytes content reply supported pcp message b.
           by-cases (GatewayUntouched bytes reply)
@@ -317,11 +341,16 @@ demand-1 =
       gateway-next-message = λ bytes content reply.
           by-cases (Unsaid toDevice reply) (λ _. gateway-ask-refused (gatewayAt bytes) content reply) (λ _ h. (omega arith, refl));
       capture-write = λ toward message buffer at h. ap (λ (w : Wrote). w .buffer) (writing .refused (fact toward) message buffer at (λ e. h (omega arith)));
+      md5-digest = λ bytes digest. digest-untouched digest _;
+      md5-new = λ bytes. state-untouched bytes _;
+      md5-feed = λ bytes piece. state-untouched bytes _;
+      md5-finish = λ bytes digest. by-cases (Unkept digest) (λ _. digest-untouched digest _) (λ _ h. refl);
       device-record = λ d image map reply supported pcp condition message.
           device-returned d image map reply _ (device-outcome d image map reply supported pcp condition message);
       device-record-repeat-differs = λ d image map reply supported pcp condition message.
           device-returned-failed d image map reply _ (device-outcome d image map reply supported pcp condition message);
       device-finished-record = finished-returned;
+      device-digest-record = digest-returned;
       gateway-record = λ g content reply supported pcp message.
           gateway-returned g content reply _ (gateway-outcome g content reply supported pcp message);
     }

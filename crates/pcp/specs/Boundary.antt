@@ -1,5 +1,5 @@
 -- What holds of every call through bytes: a refusal changes no buffer, but for the number 23, which changes the phase; and the next call finds
--- the record that the last one left. Assumes nothing.
+-- the record, or MD5's state, that the last one left. Assumes nothing.
 use Prim.Native.Nat.{ℕ, _/_, _%_, _≤_}
 use mathlib.Core.Path.{_≡_}
 use mathlib.Core.Bool.{Bool}
@@ -10,14 +10,18 @@ use Rattle.basis.specs.Bytes.{Bytes}
 use Rattle.device_record.specs.declared.Device.{Device}
 use Rattle.device_record.specs.Record.{loading, failed, newOf}
 use Rattle.device.specs.declared.Finished.{Finished}
+use Rattle.device.specs.declared.DigestAnswer.{DigestAnswer}
 use Rattle.device.specs.Rules as device
 use Rattle.gateway_record.specs.declared.Gateway.{Gateway}
 use Rattle.gateway_record.specs.Record.{startOf}
 use Rattle.gateway.specs.Rules as gateway
 use Rattle.layout.specs.Layout.{deviceAt, deviceLength, gatewayAt, gatewayLength}
+use Rattle.md5.specs.Stream as md5
+use Rattle.md5_layout.specs.Layout.{stateAt, stateLength}
 use Rattle.pcp.specs.Exports.{fact, textOf, Left, Asked, DeviceGiven, GatewayGiven, deviceNewOf, deviceReceiveOf, deviceNextMessageOf}
 use Rattle.pcp.specs.Captures.{captureWriteOf}
-use Rattle.pcp.specs.Exports.{deviceInstallFinishedOf, gatewayStartOf, gatewayReceiveOf, gatewayNextMessageOf}
+use Rattle.pcp.specs.Digests.{md5DigestOf, md5NewOf, md5FeedOf, md5FinishOf}
+use Rattle.pcp.specs.Exports.{deviceInstallFinishedOf, deviceGiveDigestOf, gatewayStartOf, gatewayReceiveOf, gatewayNextMessageOf}
 
 -- the number in an answer, and the length of the reply
 abbrev pub numberIn : ℕ → ℕ
@@ -53,6 +57,8 @@ pub record Demand1 : Type 0 where
       Refused (a .answer) → (lengthIn (a .answer) ≡ 0) × (a .reply ≡ reply)
   pub device-install-finished : (bytes : List ℕ) (code : ℕ) → Bytes bytes → let k : Left = deviceInstallFinishedOf bytes code in
       Refused (k .answer) → k .bytes ≡ bytes
+  pub device-give-digest : (bytes digest : List ℕ) → Bytes bytes → let k : Left = deviceGiveDigestOf bytes digest in
+      Refused (k .answer) → k .bytes ≡ bytes
   pub gateway-start : (bytes version : List ℕ) (size : ℕ) (content : List ℕ) (checked : ℕ)
       → let k : Left = gatewayStartOf bytes version size content checked in
       Refused (k .answer) → k .bytes ≡ bytes
@@ -63,6 +69,14 @@ pub record Demand1 : Type 0 where
       Refused (a .answer) → (lengthIn (a .answer) ≡ 0) × (a .reply ≡ reply)
   pub capture-write : (toward : ℕ) (message buffer : List ℕ) (at : ℕ) → let k : Left = captureWriteOf toward message buffer at in
       Refused (k .answer) → k .bytes ≡ buffer
+  pub md5-digest : (bytes digest : List ℕ) → let k : Left = md5DigestOf bytes digest in
+      Refused (k .answer) → k .bytes ≡ digest
+  pub md5-new : (bytes : List ℕ) → let k : Left = md5NewOf bytes in
+      Refused (k .answer) → k .bytes ≡ bytes
+  pub md5-feed : (bytes piece : List ℕ) → let k : Left = md5FeedOf bytes piece in
+      Refused (k .answer) → k .bytes ≡ bytes
+  pub md5-finish : (bytes digest : List ℕ) → let k : Left = md5FinishOf bytes digest in
+      Refused (k .answer) → k .bytes ≡ digest
   -- and of the record itself: a refused call returns the one that it was given, with the number 23 in Failed
   pub device-record : (d : Device) (image map reply : List ℕ) (supported pcp : Bool) (condition : ℕ) (message : List ℕ)
       → let a : device.After = device.receiveOf d image map reply supported pcp condition message in
@@ -72,6 +86,8 @@ pub record Demand1 : Type 0 where
       a .number ≡ repeatDiffers → (d .phase ≡ loading) × (a ≡ device.differ d image map reply)
   pub device-finished-record : (d : Device) (code : ℕ) → let f : Finished = device.installFinishedOf d code in
       (f .number ≡ 0 → ⊥) → f .device ≡ d
+  pub device-digest-record : (d : Device) (digest : List ℕ) → let g : DigestAnswer = device.giveDigestOf d digest in
+      (g .number ≡ 0 → ⊥) → g .device ≡ d
   pub gateway-record : (g : Gateway) (content reply : List ℕ) (supported pcp : Bool) (message : List ℕ)
       → let a : gateway.After = gateway.receiveOf g content reply supported pcp message in
       (a .number ≡ 0 → ⊥) → a ≡ gateway.refuse g content reply (a .number)
@@ -87,9 +103,16 @@ pub record Carried : Type 0 where
       ≡ device.receiveOf (deviceAt bytes) image map reply (fact supported) (fact pcp) condition message .device
   pub device-install-finished : (bytes : List ℕ) (code : ℕ) → deviceLength ≤ length bytes
       → deviceAt (deviceInstallFinishedOf bytes code .bytes) ≡ device.installFinishedOf (deviceAt bytes) code .device
+  pub device-give-digest : (bytes digest : List ℕ) → deviceLength ≤ length bytes → length digest ≡ 16
+      → deviceAt (deviceGiveDigestOf bytes digest .bytes) ≡ device.giveDigestOf (deviceAt bytes) digest .device
+  -- what has not 16 bytes is no digest: the record stays
+  pub device-no-digest : (bytes digest : List ℕ) → deviceLength ≤ length bytes → (length digest ≡ 16 → ⊥)
+      → deviceAt (deviceGiveDigestOf bytes digest .bytes) ≡ deviceAt bytes
   pub gateway-start : (bytes version : List ℕ) (size : ℕ) (content : List ℕ) (checked : ℕ) → gatewayLength ≤ length bytes
       → startOf (textOf version) size content (fact checked) .number ≡ 0
       → gatewayAt (gatewayStartOf bytes version size content checked .bytes) ≡ startOf (textOf version) size content (fact checked) .gateway
   pub gateway-receive : (bytes content reply : List ℕ) (supported pcp : ℕ) (message : List ℕ) → gatewayLength ≤ length bytes
       → gatewayAt (gatewayReceiveOf bytes content reply supported pcp message .bytes)
       ≡ gateway.receiveOf (gatewayAt bytes) content reply (fact supported) (fact pcp) message .gateway
+  pub md5-new : (bytes : List ℕ) → stateLength ≤ length bytes → stateAt (md5NewOf bytes .bytes) ≡ md5.newOf
+  pub md5-feed : (bytes piece : List ℕ) → stateLength ≤ length bytes → stateAt (md5FeedOf bytes piece .bytes) ≡ md5.feedOf (stateAt bytes) piece

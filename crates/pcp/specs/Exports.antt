@@ -13,6 +13,7 @@ use Rattle.device_record.specs.declared.Device.{Device}
 use Rattle.device_record.specs.declared.Made.{Made}
 use Rattle.device_record.specs.Record.{newOf}
 use Rattle.device.specs.declared.Finished.{Finished}
+use Rattle.device.specs.declared.DigestAnswer.{DigestAnswer}
 use Rattle.device.specs.Rules as device
 use Rattle.gateway_record.specs.declared.Gateway.{Gateway}
 use Rattle.gateway_record.specs.declared.Started.{Started}
@@ -99,6 +100,16 @@ module _ (bytes : List ℕ) where
   deviceInstallFinishedOf code =
       let f : Finished = device.installFinishedOf (deviceAt bytes) code in
       pick deviceFits (record { answer = f .number; bytes = deviceKept (f .device) }) (record { answer = shortRecord; bytes = bytes })
+
+  -- a digest that has not 16 bytes is refused as a record that is too short is
+  unfoldable pub deviceGiveDigestOf : (digest : List ℕ) → Left
+  deviceGiveDigestOf digest =
+      let g : DigestAnswer = device.giveDigestOf (deviceAt bytes) (part digest 0 16) in
+      pick deviceFits
+      (pick (eqb (length digest) 16)
+      (record { answer = g .number; bytes = deviceKept (g .device) })
+      (record { answer = shortRecord; bytes = bytes }))
+      (record { answer = shortRecord; bytes = bytes })
 
 -- ---- the gateway
 

@@ -1,3 +1,4 @@
 pub mod Exports
 pub mod Captures
+pub mod Digests
 pub mod Boundary

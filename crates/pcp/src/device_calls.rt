@@ -5,7 +5,7 @@ use basis::number::HANDLED;
 use basis::number::SHORT_RECORD;
 use device::Device;
 ghost use mathlib.Core.Path.{_≡_};
-ghost use Rattle.pcp.specs.Exports.{deviceNewOf, deviceReceiveOf, deviceNextMessageOf, deviceInstallFinishedOf};
+ghost use Rattle.pcp.specs.Exports.{deviceNewOf, deviceReceiveOf, deviceNextMessageOf, deviceInstallFinishedOf, deviceGiveDigestOf};
 
 // A fresh device that runs a version.
 #[no_mangle]
@@ -87,4 +87,21 @@ pub extern "C" fn pcp_raw_device_install_finished(bytes: &mut [u8], code: u8) ->
     let finished = device::install_finished(layout::device_at(bytes), code);
     layout::keep_device(bytes, finished.device);
     finished.number
+}
+
+// A digest is given for the download held: 16 bytes.
+#[no_mangle]
+pub extern "C" fn pcp_raw_device_give_digest(bytes: &mut [u8], digest: &[u8]) -> u8
+    ensures { λ r. ⌜ record { answer = r; bytes = now (bytes .exit) } ≡ deviceGiveDigestOf (now (bytes .entry)) (now (digest .entry)) ⌝ }
+{
+    if bytes.len() < layout::DEVICE_LENGTH {
+        return SHORT_RECORD;
+    }
+    if digest.len() != 16 {
+        return SHORT_RECORD;
+    }
+    let wanted = basis::sixteen_at(digest, 0);
+    let given = device::give_digest(layout::device_at(bytes), wanted);
+    layout::keep_device(bytes, given.device);
+    given.number
 }

@@ -5,6 +5,7 @@ mod answers;
 mod capture_calls;
 mod device_calls;
 mod gateway_calls;
+mod md5_calls;
 
 ghost use mathlib.Core.Path.{_≡_};
 ghost use Rattle.checksum.specs.Check.{checkOf, messageCheck};

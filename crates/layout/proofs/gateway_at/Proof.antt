@@ -10,8 +10,8 @@ version-at-requires c κs = search needs
 word-at-requires : tie.Need-word-at-requires
 word-at-requires c κs = search needs
 
-length-at-requires : tie.Need-length-at-requires
-length-at-requires c κs = search needs
+qword-at-requires : tie.Need-qword-at-requires
+qword-at-requires c κs = search needs
 
 word-at-requires-2 : tie.Need-word-at-requires-2
 word-at-requires-2 c κs = search needs
@@ -31,7 +31,7 @@ returns c = rw (
   c .before .before .package-fields .ensures,
   c .before .before .before .before .before .before .version-at .ensures,
   c .before .before .before .before .before .word-at .ensures,
-  c .before .before .before .before .length-at .ensures,
+  c .before .before .before .before .qword-at .ensures,
   c .before .before .before .word-at2 .ensures,
   c .before .byte-at .ensures,
   c .byte-at2 .ensures,
@@ -43,7 +43,7 @@ gateway-at-spec =
     (tie.spec
     version-at-requires
     word-at-requires
-    length-at-requires
+    qword-at-requires
     word-at-requires-2
     package-fields-requires
     byte-at-requires

@@ -1,11 +1,11 @@
--- `layout::put_device` meets its contract: each field is a patch where the last one ended, so that all together are the record at the front.
+-- `layout::put_front` meets its contract: each field is a patch where the last one ended, so that all together are the record at the front.
 -- Assumes nothing.
 use lib.ListN.{length}
 use mathlib.Core.Path.{_≡_}
 use Rattle.layout.proofs.Layouts.{device-put}
 use borrow.Author.Needs.{needs}
-use Rattle.layout.proofs.put_device.Statement.{statement}
-use Rattle.layout.proofs.put_device.Tie as tie
+use Rattle.layout.proofs.put_front.Statement.{statement}
+use Rattle.layout.proofs.put_front.Tie as tie
 
 device-rest-requires : tie.Need-device-rest-requires
 device-rest-requires c κs = search needs
@@ -50,8 +50,8 @@ returns c =
     (c .before .before .before .before .before .before .before .before .before .before .before .put2 .ensures)
     (c .before .before .before .before .before .before .before .put-fields .ensures) (c .before .before .put3 .ensures)
 
-pub put-device-spec : {M : Type 1} → statement M
-put-device-spec =
+pub put-front-spec : {M : Type 1} → statement M
+put-front-spec =
     tie.close
     (tie.spec
     device-rest-requires
