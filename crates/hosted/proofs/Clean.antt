@@ -5,20 +5,22 @@ use mathlib.Core.Bool.{Bool, true}
 use mathlib.Core.List.{List, [], _∷_}
 use lib.ListN.{length}
 use Rattle.basis.specs.Bytes.{same}
+use Rattle.md5.specs.Md5.{md5Of}
 use Rattle.device_record.specs.Record.{mapBytes}
 use Rattle.gateway_record.specs.Record.{totalOf}
 use Rattle.pcp.specs.Exports.{fact, textOf}
-use Rattle.upgrade.specs.Calls.{DeviceCall, given, asked, finished, GatewayCall, Call, atDevice, atGateway, Ends, next}
+use Rattle.upgrade.specs.Calls.{DeviceCall, given, asked, finished, digestGiven, GatewayCall, Call, atDevice, atGateway, Ends, next}
 use Rattle.upgrade.specs.Records.{DeviceEnd, records, World}
 use Rattle.upgrade.proofs.Ends.{deviceSays, deviceNumber, gatewaySays}
 use Rattle.upgrade.specs.Demand3.{deviceThen, start}
 use Rattle.upgrade.specs.Clean.{Reached, arriveAtDevice, arriveAtGateway, answeredByDevice, answeredByGateway, gatewayAsked, deviceAsked, UntilSilent, silent}
-use Rattle.upgrade.specs.Clean.{spoken, ending, CleanStart, CleanRunOf}
-use Rattle.upgrade.proofs.CleanAllowed.{reached-start, gateway-asked, until-silent, at-end}
-use Rattle.upgrade.proofs.CleanRun.{clean-run}
+use Rattle.upgrade.specs.Clean.{spoken, ending, digestsGiven, CleanStart, SucceedsFrom, CleanRunOf, CleanRunWithDigestsOf}
+use Rattle.upgrade.proofs.CleanAllowed.{reached-start, digest-given, digests-given, gateway-asked, until-silent, at-end}
+use Rattle.upgrade.proofs.CleanRun.{clean-run, clean-run-with-digests}
 use Rattle.hosted.specs.Hosts.{hosts, Hosts, Fitting, deviceSeen, seen, callAs}
 use Rattle.hosted.proofs.HostEnds.{deviceHostSays, deviceHostNumber, gatewayHostSays}
 use Rattle.hosted.specs.Hosted.{HostedBefore, deviceHostThen, hostedStart, recordsBefore, HostedCleanStart, HostedCleanRun}
+use Rattle.hosted.specs.Hosted.{HostedCleanRunWithDigests}
 use Rattle.hosted.proofs.Runs.{device-says, device-number-is, gateway-says, still-fitting, one-call}
 use Rattle.hosted.proofs.Demand3.{device-then, fitting, started-there, ready}
 
@@ -222,17 +224,17 @@ module _ (content : List ℕ) (affirmed : ℕ) (holds : fact affirmed ≡ true) 
 
   -- ---- the run
 
-  shown-run : (begin : Hosts) (w : World) → Shows begin w → CleanRunOf (records content) true deviceReply gatewayReply w
-      → CleanRunOf (hosts content) affirmed hostDeviceReply hostGatewayReply begin
-  shown-run begin w s (first, rest) =
+  -- from a state that allowed calls lead to
+  shown-from : (begin first : Hosts) (start w : World) → Reached (hosts content) begin first → Shows first w
+      → SucceedsFrom (records content) true deviceReply gatewayReply start w
+      → SucceedsFrom (hosts content) affirmed hostDeviceReply hostGatewayReply begin first
+  shown-from begin first start w reached s (silence, rest) =
       let e : Ends = hosts content in
-      let (k, until, t) = until-kept (first .1) (hostAsksGateway begin) (shows-gateway-asked begin w s) in (
+      let (k, until, t) = until-kept (silence .1) first s in (
         (k, until),
         λ h silence.
-            let (v, until, t) = until-seen silence _ (shows-gateway-asked begin w s) in
-            let there : Reached e begin h =
-            until-silent e begin affirmed hostDeviceReply hostGatewayReply silence
-            (gateway-asked e begin affirmed hostDeviceReply hostGatewayReply begin (reached-start e begin)) in
+            let (v, until, t) = until-seen silence w s in
+            let there : Reached e begin h = until-silent e begin affirmed hostDeviceReply hostGatewayReply silence reached in
             let end : Shows _ _ = shows-ending h v t in (
               there,
               ap (λ (x : World). x .gateway .phase) (t .is) ∙ rest v until .1,
@@ -242,6 +244,36 @@ module _ (content : List ℕ) (affirmed : ℕ) (holds : fact affirmed ≡ true) 
                 ap (λ (x : World). x .gateway .ending) (end .is) ∙ rest v until .3 .1,
               ),
             ),
+      )
+
+  first-there : (begin : Hosts) → Reached (hosts content) begin (hostAsksGateway begin)
+  first-there begin =
+      let e : Ends = hosts content in
+      gateway-asked e begin affirmed hostDeviceReply hostGatewayReply begin (reached-start e begin)
+
+  shown-run : (begin : Hosts) (w : World) → Shows begin w → CleanRunOf (records content) true deviceReply gatewayReply w
+      → CleanRunOf (hosts content) affirmed hostDeviceReply hostGatewayReply begin
+  shown-run begin w s r = shown-from begin (hostAsksGateway begin) w _ (first-there begin) (shows-gateway-asked begin w s) r
+
+  shows-digests : (digests : List (List ℕ)) (h : Hosts) (w : World) → Shows h w
+      → Shows (digestsGiven (hosts content) h digests) (digestsGiven (records content) w digests)
+  unfolding digestsGiven
+  shows-digests [] h w s = s
+  shows-digests (d ∷ ds) h w s = shows-digests ds _ _ (shows-next h w (atDevice (digestGiven d)) s)
+
+  shown-with-digests : (begin : Hosts) (w : World) → Shows begin w → CleanRunWithDigestsOf (records content) true deviceReply gatewayReply w content
+      → CleanRunWithDigestsOf (hosts content) affirmed hostDeviceReply hostGatewayReply begin content
+  shown-with-digests begin w s r others =
+      let call : DeviceCall ℕ = digestGiven (md5Of content) in
+      let there : Hosts = digestsGiven (hosts content) (hostAsksGateway begin) others in
+      let here : World = digestsGiven (records content) (gatewayAsked (records content) true deviceReply gatewayReply w) others in
+      let t : Shows there here = shows-digests others _ _ (shows-gateway-asked begin w s) in (
+        device-number-is (there .deviceEnd) call (t .fits .device)
+            ∙ ap (λ (v : World). deviceNumber (v .deviceEnd) (digestGiven (md5Of content))) (t .is)
+            ∙ r others .0,
+        shown-from begin (next (hosts content) there (atDevice call)) w _
+            (digest-given (hosts content) begin there (md5Of content) (digests-given (hosts content) begin others _ (first-there begin)))
+            (shows-next there here (atDevice call) t) (r others .1),
       )
 
 module _ (b : HostedBefore) (deviceReply gatewayReply : World → List ℕ) (c : HostedCleanStart b deviceReply gatewayReply) where
@@ -265,3 +297,9 @@ hosted-clean-run b affirmed deviceReply gatewayReply holds c =
     shown-run (b .content) affirmed holds deviceReply gatewayReply (hostedStart b) (start (recordsBefore b))
     (record { fits = fitting b (c .ready); is = started-there b (c .ready) })
     (clean-run (recordsBefore b) deviceReply gatewayReply (clean-start b deviceReply gatewayReply c))
+
+pub hosted-clean-run-with-digests : HostedCleanRunWithDigests
+hosted-clean-run-with-digests b affirmed deviceReply gatewayReply holds c =
+    shown-with-digests (b .content) affirmed holds deviceReply gatewayReply (hostedStart b) (start (recordsBefore b))
+    (record { fits = fitting b (c .ready); is = started-there b (c .ready) })
+    (clean-run-with-digests (recordsBefore b) deviceReply gatewayReply (clean-start b deviceReply gatewayReply c))

@@ -14,7 +14,7 @@ use Rattle.pcp.specs.Exports.{fact, textOf, Left, deviceNewOf, gatewayStartOf}
 use Rattle.pcp.proofs.ExportLaws.{long-enough}
 use Rattle.pcp.proofs.Carrying.{records-carried}
 use Rattle.upgrade.specs.Fold.{after, Allowed}
-use Rattle.upgrade.specs.Calls.{given, asked, finished, GatewayCall, Call, atDevice, atGateway, next, May}
+use Rattle.upgrade.specs.Calls.{given, asked, finished, digestGiven, GatewayCall, Call, atDevice, atGateway, next, May}
 use Rattle.upgrade.specs.Records.{DeviceEnd, deviceNext, gatewayNext, records, World}
 use Rattle.upgrade.specs.Claims.{Executed, Installed, numberOf, Ended, Success, reached, InstalledBefore, Demand3Of, RepeatsAgreeOf, InstallLengthOf}
 use Rattle.upgrade.specs.Demand3.{Ready, start, deviceThen, gatewayThen}
@@ -35,6 +35,7 @@ module _ (content : List ℕ) (h : Hosts) (f : Fitting h) where
       (x .0, sym (device-says (h .deviceEnd) (given supported pcp condition message reply) (f .device)) ∙ x .1)
   executed-seen (atDevice (asked reply)) x = absurd x
   executed-seen (atDevice (finished code)) x = absurd x
+  executed-seen (atDevice (digestGiven digest)) x = absurd x
   executed-seen (atGateway c) x = absurd x
 
   executed-kept : (c : Call ℕ) → Executed (records content) (seen h) (callAs fact c) → Executed (hosts content) h c
@@ -42,12 +43,14 @@ module _ (content : List ℕ) (h : Hosts) (f : Fitting h) where
       (x .0, device-says (h .deviceEnd) (given supported pcp condition message reply) (f .device) ∙ x .1)
   executed-kept (atDevice (asked reply)) x = absurd x
   executed-kept (atDevice (finished code)) x = absurd x
+  executed-kept (atDevice (digestGiven digest)) x = absurd x
   executed-kept (atGateway c) x = absurd x
 
   installed-kept : (c : Call ℕ) → Installed (records content) (seen h) (callAs fact c) → Installed (hosts content) h c
   installed-kept (atDevice (given supported pcp condition message reply)) x = absurd x
   installed-kept (atDevice (asked reply)) x = absurd x
   installed-kept (atDevice (finished code)) x = (x .0, device-number-is (h .deviceEnd) (finished code) (f .device) ∙ x .1)
+  installed-kept (atDevice (digestGiven digest)) x = absurd x
   installed-kept (atGateway c) x = absurd x
 
 -- ---- the claims
@@ -73,6 +76,7 @@ module _ (content : List ℕ) (begin : Hosts) (fits : Fitting begin) where
   may-there h (atDevice (given supported pcp condition message reply)) m = m
   may-there h (atDevice (asked reply)) m = tt
   may-there h (atDevice (finished code)) m = tt
+  may-there h (atDevice (digestGiven digest)) m = tt
   may-there h (atGateway (GatewayCall.given supported pcp message reply)) m = m
   may-there h (atGateway (GatewayCall.asked reply)) m = tt
 

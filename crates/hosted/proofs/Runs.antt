@@ -4,24 +4,26 @@ use native.Mathlib.Omega.{arith}
 use mathlib.Core.Path.{_≡_, refl, sym, _∙_, ap}
 use mathlib.Core.List.{List, _++_}
 use lib.ListN.{length, length-append, length-drop}
+use borrow.Author.Tests.{eqb-true, eqb-false}
 use Rattle.basis.specs.Bytes.{over}
-use Rattle.basis.proofs.Choosing.{by-cases}
+use Rattle.basis.proofs.Choosing.{by-cases, pick-yes, pick-no}
 use Rattle.codec.specs.Codec.{Sent}
+use Rattle.device.specs.declared.DigestAnswer.{DigestAnswer}
 use Rattle.device.specs.Rules as device
 use Rattle.gateway.specs.Rules as gateway
 use Rattle.layout.specs.Layout.{kept, deviceAt, deviceLength, gatewayAt, gatewayLength}
 use Rattle.pcp.specs.Exports.{askAnswer, fact, packed, Left, Asked, DeviceGiven, GatewayGiven, deviceKept, gatewayKept, deviceReceiveOf, deviceNextMessageOf}
-use Rattle.pcp.specs.Exports.{deviceInstallFinishedOf, gatewayReceiveOf, gatewayNextMessageOf}
+use Rattle.pcp.specs.Exports.{deviceInstallFinishedOf, deviceGiveDigestOf, gatewayReceiveOf, gatewayNextMessageOf}
 use Rattle.pcp.specs.Boundary.{numberIn, lengthIn}
 use Rattle.pcp.proofs.ExportLaws.{long-enough}
 use Rattle.pcp.proofs.Refusals.{device-number, device-ask-number, gateway-number, gateway-ask-number}
-use Rattle.pcp.proofs.Carrying.{records-carried}
-use Rattle.upgrade.specs.Calls.{aired, DeviceCall, given, asked, finished, GatewayCall, Call, atDevice, atGateway, next}
-use Rattle.upgrade.specs.Records.{deviceNext, gatewayNext, records, deviceDoes, gatewayDoes}
+use Rattle.pcp.proofs.Carrying.{digest-whole, records-carried}
+use Rattle.upgrade.specs.Calls.{aired, DeviceCall, given, asked, finished, digestGiven, GatewayCall, Call, atDevice, atGateway, next}
+use Rattle.upgrade.specs.Records.{deviceDigestAnswer, deviceNext, gatewayNext, records, deviceDoes, gatewayDoes}
 use Rattle.upgrade.proofs.Ends.{deviceSays, deviceNumber, gatewaySays, gatewayNumber}
 use Rattle.hosted.specs.Hosts.{DeviceHost, deviceHostNext, deviceSeen, gatewayHostNext, hosts, Hosts, deviceHostDoes, gatewayHostDoes}
 use Rattle.hosted.proofs.HostEnds.{deviceHostSays, deviceHostNumber, gatewayHostSays, gatewayHostNumber}
-use Rattle.hosted.specs.Hosts.{Fitting, seen, deviceCallAs, gatewayCallAs, callAs, HostedRuns}
+use Rattle.hosted.specs.Hosts.{Fitting, seen, deviceCallAs, gatewayCallAs, callAs, HostedRuns, HostedAnswers}
 use Rattle.hosted.proofs.Shown.{shown}
 
 -- ---- an answer taken apart; a buffer's room
@@ -56,12 +58,15 @@ module _ (h : DeviceHost) where
   received-is supported pcp condition message reply r = sym (long-enough deviceLength (h .bytes) _ _ r)
 
   pub device-room : (c : DeviceCall ℕ) → deviceLength ≤ length (h .bytes) → deviceLength ≤ length (deviceHostNext h c .bytes)
-  unfolding deviceHostDoes deviceReceiveOf deviceInstallFinishedOf
+  unfolding deviceHostDoes deviceReceiveOf deviceInstallFinishedOf deviceGiveDigestOf
   device-room (given supported pcp condition message reply) r =
       by-cases (λ (g : DeviceGiven). deviceLength ≤ length (g .bytes)) (λ _. kept-room deviceLength _ (h .bytes) r) (λ _. r)
   device-room (asked reply) r = r
   device-room (finished code) r =
       by-cases (λ (k : Left). deviceLength ≤ length (k .bytes)) (λ _. kept-room deviceLength _ (h .bytes) r) (λ _. r)
+  device-room (digestGiven digest) r =
+      by-cases (λ (k : Left). deviceLength ≤ length (k .bytes))
+      (λ _. by-cases (λ (k : Left). deviceLength ≤ length (k .bytes)) (λ _. kept-room deviceLength _ (h .bytes) r) (λ _. r)) (λ _. r)
 
   pub device-next : (c : DeviceCall ℕ) → deviceLength ≤ length (h .bytes) → deviceSeen (deviceHostNext h c) ≡ deviceNext (deviceSeen h) (deviceCallAs fact c)
   unfolding deviceHostDoes deviceDoes deviceReceiveOf deviceInstallFinishedOf
@@ -73,6 +78,12 @@ module _ (h : DeviceHost) where
   device-next (finished code) r =
       let d : deviceAt (deviceInstallFinishedOf (h .bytes) code .bytes) ≡ device.installFinishedOf (deviceAt (h .bytes)) code .device =
       records-carried .device-install-finished (h .bytes) code r in
+      λ i. record { device = d i; image = h .image; map = h .map }
+  device-next (digestGiven digest) r =
+      let d : deviceAt (deviceGiveDigestOf (h .bytes) digest .bytes) ≡ deviceDigestAnswer (deviceAt (h .bytes)) digest .device =
+      by-cases (λ (g : DigestAnswer). deviceAt (deviceGiveDigestOf (h .bytes) digest .bytes) ≡ g .device)
+      (λ t. records-carried .device-give-digest (h .bytes) digest r (eqb-true (length digest) 16 t))
+      (λ t. records-carried .device-no-digest (h .bytes) digest r (eqb-false (length digest) 16 t)) in
       λ i. record { device = d i; image = h .image; map = h .map }
 
   pub device-says : (c : DeviceCall ℕ) → deviceLength ≤ length (h .bytes) → deviceHostSays h c ≡ deviceSays (deviceSeen h) (deviceCallAs fact c)
@@ -90,9 +101,10 @@ module _ (h : DeviceHost) where
       ∙ ap (λ (k : ℕ). aired k (s .buffer))
       (length-in (s .number) (s .length) (device-ask-number (deviceAt (h .bytes)) (h .image) (h .map) reply))
   device-says (finished code) r = refl
+  device-says (digestGiven digest) r = refl
 
   pub device-number-is : (c : DeviceCall ℕ) → deviceLength ≤ length (h .bytes) → deviceHostNumber h c ≡ deviceNumber (deviceSeen h) (deviceCallAs fact c)
-  unfolding deviceHostDoes deviceDoes deviceReceiveOf deviceNextMessageOf deviceInstallFinishedOf
+  unfolding deviceHostDoes deviceDoes deviceReceiveOf deviceNextMessageOf deviceInstallFinishedOf deviceGiveDigestOf
   device-number-is (given supported pcp condition message reply) r =
       let a : device.After = device.receiveOf (deviceAt (h .bytes)) (h .image) (h .map) reply (fact supported) (fact pcp) condition message in
       ap (λ (g : DeviceGiven). numberIn (g .answer)) (sym (long-enough deviceLength (h .bytes) _ _ r))
@@ -102,6 +114,11 @@ module _ (h : DeviceHost) where
       ap (λ (a : Asked). numberIn (a .answer)) (sym (long-enough deviceLength (h .bytes) _ _ r))
       ∙ number-in (s .number) (s .length) (device-ask-number (deviceAt (h .bytes)) (h .image) (h .map) reply)
   device-number-is (finished code) r = ap (λ (k : Left). k .answer) (sym (long-enough deviceLength (h .bytes) _ _ r))
+  device-number-is (digestGiven digest) r =
+      by-cases (λ (g : DigestAnswer). deviceGiveDigestOf (h .bytes) digest .answer ≡ g .number)
+      (λ t. ap (λ (k : Left). k .answer) (sym (long-enough deviceLength (h .bytes) _ _ r) ∙ pick-yes _ _ _ t)
+      ∙ ap (λ (xs : List ℕ). device.giveDigestOf (deviceAt (h .bytes)) xs .number) (digest-whole digest (eqb-true (length digest) 16 t)))
+      (λ t. ap (λ (k : Left). k .answer) (sym (long-enough deviceLength (h .bytes) _ _ r) ∙ pick-no _ _ _ t))
 
 -- ---- the gateway's host
 
@@ -175,3 +192,7 @@ module _ (content : List ℕ) where
 pub hosted-runs : HostedRuns
 hosted-runs content h f calls =
     shown (next (hosts content)) (next (records content)) seen (callAs fact) Fitting (still-fitting content) (one-call content) calls h f
+
+pub hosted-answers : HostedAnswers
+hosted-answers content h f (atDevice c) = device-number-is (h .deviceEnd) c (f .device)
+hosted-answers content h f (atGateway c) = gateway-number-is content (h .gateway) c (f .gateway)

@@ -4,7 +4,7 @@ use mathlib.Core.Path.{refl, sym}
 use mathlib.Core.Bool.{true≢false}
 use mathlib.Core.List.{List·Memᴰ·not-nil}
 use Rattle.basis.specs.Choice.{pick, refusal, oneOf}
-use Rattle.basis.specs.Bytes.{part, same, over, patched}
+use Rattle.basis.specs.Bytes.{qwordAt, qwordBytes, part, same, over, patched}
 use Rattle.checksum.specs.Check.{doubled, entryOf, step, register, checkOf, zeroed, messageCheck}
 use Rattle.message.specs.Limits.{sizeOk, totalOk, isWord}
 use Rattle.message.specs.Version.{versionCharacter, front, allZero, goodVersion}
@@ -17,7 +17,7 @@ use Rattle.device.specs.Rules as device
 use Rattle.gateway_record.specs.Record as gateway-record
 use Rattle.gateway_decisions.specs.Decisions as decisions
 use Rattle.gateway.specs.Rules as gateway
-use Rattle.layout.specs.Layout.{kept, deviceBytes, deviceAt, gatewayBytes, gatewayAt}
+use Rattle.layout.specs.Layout.{kept, frontBytes, deviceBytes, deviceAt, gatewayBytes, gatewayAt}
 use Rattle.pcp.specs.Exports.{textOf, deviceNewOf, deviceReceiveOf, gatewayStartOf, gatewayReceiveOf}
 use Rattle.upgrade.specs.Records.{deviceDoes, gatewayDoes}
 use Rattle.upgrade.specs.Held.{heldBy, heldNext, heldAfter}
@@ -26,18 +26,19 @@ use Rattle.hosted.specs.Hosts.{deviceHostDoes, gatewayHostDoes}
 use Rattle.hosted.specs.Witnesses.{HostedWitnesses}
 
 pub hosted-witnesses : HostedWitnesses
-unfolding pick refusal oneOf part same over patched doubled entryOf step register checkOf zeroed messageCheck sizeOk totalOk isWord versionCharacter front
-    allZero goodVersion startHolds versionByteHolds codeHolds checkHolds lengthHolds recognition deviceRow fragmentOk deviceFields gatewayRow installCode
-    gatewayFields sealed frame bytesOf readOf writeOf said marked mark cleared missingFrom lowestMissing device-record.holding device-record.conditionOk
-    device-record.newOf device-record.downloadOk device-record.recordOk device-record.mapBytes device-record.memoryOk device.begin device.store
-    device.onQuery device.onAnnounce device.onFragment device.onDownloadReply device.onExecute device.onResultReply device.handle device.receiveOf
-    device.wanted device.nextMessageOf device.installFinishedOf device.announceResult device.sameFields device.resumes device.fragmentLength
-    device.repeatRefusal device.fragmentRefusal device.passes device.completion device.executeResult
-    gateway-record.totalOf gateway-record.lengthOk gateway-record.fragmentOf
+unfolding pick refusal oneOf qwordAt qwordBytes part same over patched doubled entryOf step register checkOf zeroed messageCheck sizeOk totalOk isWord
+    versionCharacter front allZero goodVersion startHolds versionByteHolds codeHolds checkHolds lengthHolds recognition deviceRow fragmentOk
+    deviceFields gatewayRow installCode gatewayFields sealed frame bytesOf readOf writeOf said marked mark cleared missingFrom lowestMissing
+    device-record.holding device-record.conditionOk device-record.newOf device-record.downloadOk device-record.recordOk device-record.mapBytes
+    device-record.memoryOk device.begin device.store device.onQuery device.onAnnounce device.onFragment device.onDownloadReply device.onExecute
+    device.onResultReply device.handle device.receiveOf device.wanted device.nextMessageOf device.installFinishedOf device.announceResult
+    device.sameFields device.resumes device.fragmentLength device.repeatRefusal device.fragmentRefusal device.checkPasses device.digestPasses
+    device.passes device.completion device.executeResult gateway-record.totalOf gateway-record.lengthOk gateway-record.fragmentOf
     gateway-record.startOf gateway-record.recordOk decisions.afterQuery decisions.serving decisions.fragmentResult decisions.installEnding
     gateway.fragmentReply gateway.onQueryReply gateway.onAnnounceReply gateway.onFragmentRequest gateway.onDownloadReport gateway.onExecuteReply
     gateway.onResultReport gateway.handle gateway.receiveOf gateway.wanted gateway.nextMessageOf deviceDoes gatewayDoes heldBy heldNext heldAfter
-    deviceNewOf deviceReceiveOf gatewayStartOf gatewayReceiveOf textOf kept deviceBytes deviceAt gatewayBytes gatewayAt deviceHostDoes gatewayHostDoes
+    deviceNewOf deviceReceiveOf gatewayStartOf gatewayReceiveOf textOf kept frontBytes deviceBytes deviceAt gatewayBytes gatewayAt deviceHostDoes
+    gatewayHostDoes
 hosted-witnesses =
     record {
       clean = record {

@@ -1,4 +1,5 @@
--- Demand 3, the clean run and the count of what hosts keep, from making and start through the exports on. Assumes nothing.
+-- Demand 3, the clean run, the count and the test at completion of what hosts keep, from making and start through the exports on. Assumes
+-- nothing.
 use Prim.Native.Nat.{ℕ, _*_, _≤_}
 use mathlib.Core.Path.{_≡_}
 use mathlib.Core.Bool.{true, false}
@@ -15,8 +16,9 @@ use Rattle.upgrade.specs.Calls.{DeviceCall, GatewayCall}
 use Rattle.upgrade.specs.Records.{World}
 use Rattle.upgrade.specs.Claims.{Demand3Of, UpgradeOf, RepeatsAgreeOf, InstallLengthOf}
 use Rattle.upgrade.specs.Demand3.{Before, HeldIsPackage}
-use Rattle.upgrade.specs.Clean.{CleanRunOf}
+use Rattle.upgrade.specs.Clean.{CleanRunOf, CleanRunWithDigestsOf}
 use Rattle.upgrade.specs.Counted.{CountOf, RoomOf}
+use Rattle.upgrade.specs.Tested.{TestedOf}
 use Rattle.hosted.specs.Hosts.{DeviceHost, deviceHostNext, deviceHosts, gatewayHostNext, hosts, Hosts, seen, deviceCallAs, gatewayCallAs}
 
 -- the device made in a buffer, with an image and a map
@@ -103,12 +105,20 @@ pub record HostedCleanStart (b : HostedBefore) (deviceReply gatewayReply : World
   pub device-room : (w : World) → deviceRoom ≤ length (deviceReply w)
   pub gateway-room : (w : World) → gatewayRoom ≤ length (gatewayReply w)
 
--- any byte that means yes
-abbrev pub HostedCleanRun : Type 0
-HostedCleanRun =
+-- a claim of every clean run, with any byte that means yes
+abbrev pub HostedClean : ((b : HostedBefore) (affirmed : ℕ) (deviceReply gatewayReply : Hosts → List ℕ) → Type 0) → Type 0
+HostedClean Claim =
     (b : HostedBefore) (affirmed : ℕ) (deviceReply gatewayReply : World → List ℕ) → fact affirmed ≡ true →
     HostedCleanStart b deviceReply gatewayReply →
-    CleanRunOf (hosts (b .content)) affirmed (λ h. deviceReply (seen h)) (λ h. gatewayReply (seen h)) (hostedStart b)
+    Claim b affirmed (λ h. deviceReply (seen h)) (λ h. gatewayReply (seen h))
+
+abbrev pub HostedCleanRun : Type 0
+HostedCleanRun = HostedClean (λ b affirmed deviceReply gatewayReply. CleanRunOf (hosts (b .content)) affirmed deviceReply gatewayReply (hostedStart b))
+
+abbrev pub HostedCleanRunWithDigests : Type 0
+HostedCleanRunWithDigests =
+    HostedClean (λ b affirmed deviceReply gatewayReply.
+    CleanRunWithDigestsOf (hosts (b .content)) affirmed deviceReply gatewayReply (hostedStart b) (b .content))
 
 -- ---- the count
 
@@ -117,3 +127,9 @@ HostedCount = (buffer running map : List ℕ) → HostMade buffer running → Co
 
 abbrev pub HostedRoom : Type 0
 HostedRoom = (buffer running image map : List ℕ) → HostMade buffer running → RoomOf deviceHosts (hostMade buffer running image map)
+
+-- ---- the test at completion
+
+abbrev pub HostedCompletedIsTested : Type 0
+HostedCompletedIsTested =
+    (buffer running image map : List ℕ) → HostMade buffer running → TestedOf deviceHosts (hostMade buffer running image map)

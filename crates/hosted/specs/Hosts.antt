@@ -4,13 +4,14 @@ use mathlib.Core.Path.{_≡_}
 use mathlib.Core.List.{List, [], map}
 use lib.ListN.{length}
 use Rattle.layout.specs.Layout.{deviceAt, deviceLength, gatewayAt, gatewayLength}
-use Rattle.pcp.specs.Exports.{fact, Left, Asked, DeviceGiven, GatewayGiven, deviceReceiveOf, deviceNextMessageOf, deviceInstallFinishedOf}
+use Rattle.pcp.specs.Exports.{fact, Left, Asked, DeviceGiven, GatewayGiven, deviceReceiveOf, deviceNextMessageOf, deviceInstallFinishedOf, deviceGiveDigestOf}
 use Rattle.pcp.specs.Exports.{gatewayReceiveOf, gatewayNextMessageOf}
 use Rattle.pcp.specs.Boundary.{numberIn, lengthIn}
 use Rattle.upgrade.specs.Fold.{after}
-use Rattle.upgrade.specs.Calls.{aired, DeviceCall, given, asked, finished, GatewayCall, Call, atDevice, atGateway, Done, DeviceSide, Ends, Exchange}
-use Rattle.upgrade.specs.Calls.{next}
+use Rattle.upgrade.specs.Calls.{aired, DeviceCall, given, asked, finished, digestGiven, GatewayCall, Call, atDevice, atGateway, Done, DeviceSide, Ends}
+use Rattle.upgrade.specs.Calls.{Exchange, next}
 use Rattle.upgrade.specs.Records.{DeviceEnd, records, World}
+use Rattle.upgrade.specs.Claims.{numberOf}
 
 -- ---- the device's host
 
@@ -33,6 +34,10 @@ deviceHostDoes h (asked reply) =
     record { state = h; says = aired (lengthIn (a .answer)) (a .reply); number = numberIn (a .answer) }
 deviceHostDoes h (finished code) =
     let l : Left = deviceInstallFinishedOf (h .bytes) code in
+    record { state = record { bytes = l .bytes; image = h .image; map = h .map }; says = []; number = l .answer }
+-- of any length: what has not 16 bytes is answered with 64
+deviceHostDoes h (digestGiven digest) =
+    let l : Left = deviceGiveDigestOf (h .bytes) digest in
     record { state = record { bytes = l .bytes; image = h .image; map = h .map }; says = []; number = l .answer }
 
 abbrev pub deviceHostNext : DeviceHost → DeviceCall ℕ → DeviceHost
@@ -93,6 +98,7 @@ module _ {F K : Type 0} (of : F → K) where
   deviceCallAs (given supported pcp condition message reply) = given (of supported) (of pcp) condition message reply
   deviceCallAs (asked reply) = asked reply
   deviceCallAs (finished code) = finished code
+  deviceCallAs (digestGiven digest) = digestGiven digest
 
   abbrev pub gatewayCallAs : GatewayCall F → GatewayCall K
   gatewayCallAs (GatewayCall.given supported pcp message reply) = GatewayCall.given (of supported) (of pcp) message reply
@@ -108,3 +114,9 @@ HostedRuns =
     (content : List ℕ) (h : Hosts) → Fitting h → (calls : List (Call ℕ)) →
     Fitting (after (next (hosts content)) h calls)
     × (seen (after (next (hosts content)) h calls) ≡ after (next (records content)) (seen h) (map (callAs fact) calls))
+
+-- and each call is answered with the number with which the same call is answered over records
+abbrev pub HostedAnswers : Type 0
+HostedAnswers =
+    (content : List ℕ) (h : Hosts) → Fitting h → (c : Call ℕ) →
+    numberOf (hosts content) h c ≡ numberOf (records content) (seen h) (callAs fact c)

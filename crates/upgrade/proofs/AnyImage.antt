@@ -19,10 +19,13 @@ use Rattle.device.specs.Rules.{After, announceResult, resumes, receiveOf, nextM
 use Rattle.device.proofs.Holds.{Rule}
 use Rattle.device.proofs.Views
 use Rattle.device.proofs.Views.{receive-does, install-does}
-use Rattle.device.proofs.Sound.{Download, Sound, sound-record, sound-room, sound-under, sound-begun, sound-stored, sound-differs, sound-idle, sound-moved}
+use Rattle.device.proofs.Sound.{Download, Sound, sound-record, sound-room, sound-under, sound-begun, sound-stored, sound-differs, sound-digest}
+use Rattle.device.proofs.Sound.{sound-idle, sound-moved}
 use Rattle.device.proofs.Sound.{sound-executed, sound-outcome, sound-does}
 use Rattle.device.proofs.Not29Not14.{heard-neither, ask-neither, install-neither}
 use Rattle.device.proofs.Guarded.{asking-passed, receiving-passed}
+use Rattle.upgrade.specs.Records.{deviceDigestAnswer}
+use Rattle.upgrade.proofs.DeviceCalls.{digest-given-does, digest-given-neither}
 
 -- of the image's bytes nothing is asked
 abbrev pub free : Rule
@@ -46,6 +49,7 @@ module _ (d : Device) (image other map : List ℕ) where
       record {
         phase-known = s .phase-known;
         outcome-known = s .outcome-known;
+        flag-known = s .flag-known;
         running-good = s .running-good;
         target-good = s .target-good;
         download = λ h.
@@ -118,6 +122,8 @@ kept-does d image map input o (Views.executes condition i p e) room k =
     rw e (record { image = k .image; sound = sound-executed free d (k .image) map p (k .sound) })
 kept-does d image map input o (Views.reports code i p c e) room k =
     rw e (record { image = k .image; sound = sound-outcome free d (k .image) map code p c (k .sound) })
+kept-does d image map input o (Views.takes-digest digest i p e) room k =
+    rw e (record { image = k .image; sound = sound-digest free d (k .image) map digest (k .sound) })
 
 pub kept-given : (d : Device) (image map reply : List ℕ) (supported pcp : Bool) (condition : ℕ) (message : List ℕ) → Kept d map
     → let a : After = receiveOf d image map reply supported pcp condition message in
@@ -136,6 +142,10 @@ kept-given d image map reply supported pcp condition message k = at (memoryOk d 
 pub kept-installed : (d : Device) (map : List ℕ) (code : ℕ) → Kept d map → Kept (installFinishedOf d code .device) map
 kept-installed d map code k =
     record { image = k .image; sound = sound-does free d (k .image) map _ _ (install-does d (k .image) map code) (λ _ _ _ _ _. tt) (k .sound) }
+
+pub kept-digest-given : (d : Device) (map digest : List ℕ) → Kept d map → Kept (deviceDigestAnswer d digest .device) map
+kept-digest-given d map digest k =
+    record { image = k .image; sound = sound-does free d (k .image) map _ _ (digest-given-does d (k .image) map digest) (λ _ _ _ _ _. tt) (k .sound) }
 
 -- ---- 29 is not met
 
@@ -177,3 +187,6 @@ module _ (d : Device) (image map reply : List ℕ) where
 
 pub installed-unmet : (d : Device) (map : List ℕ) (code : ℕ) → Kept d map → Not29 (installFinishedOf d code .number)
 installed-unmet d map code k = install-neither free d (k .image) map (k .sound) code .0
+
+pub digest-given-unmet : (d : Device) (map digest : List ℕ) → Kept d map → Not29 (deviceDigestAnswer d digest .number)
+digest-given-unmet d map digest k = digest-given-neither free d (k .image) map (k .sound) digest .0

@@ -19,11 +19,11 @@ use Rattle.device_record.specs.declared.Made.{Made}
 use Rattle.device_record.specs.Record.{idle, loaded, acked, fresh, newOf}
 use Rattle.device.specs.Rules.{announceResult, resumes}
 use Rattle.device.proofs.Views
-use Rattle.device.proofs.Views.{Input, hears, asks, installs, Out}
-use Rattle.device.proofs.Sound.{sound-fresh, sound-begun, sound-stored, sound-differs, sound-moved, sound-executed, sound-outcome}
+use Rattle.device.proofs.Views.{Input, hears, asks, installs, digests, Out}
+use Rattle.device.proofs.Sound.{sound-fresh, sound-begun, sound-stored, sound-differs, sound-digest, sound-moved, sound-executed, sound-outcome}
 use Rattle.device.proofs.Standing.{standing, standing-under, stored-new}
 use Rattle.upgrade.specs.Fold.{after}
-use Rattle.upgrade.specs.Calls.{DeviceCall, given, asked, finished}
+use Rattle.upgrade.specs.Calls.{DeviceCall, given, asked, finished, digestGiven}
 use Rattle.upgrade.specs.Records.{DeviceEnd, deviceNext}
 use Rattle.upgrade.specs.Held.{Held, heldBy, heldNext, heldAfter}
 use Rattle.upgrade.proofs.DeviceCalls.{endOf, DoesAt, StillAt, BeginsAt, StoresAt, MovesAt, begunAt, storedAt, inputOf, outIn, call-does, next-is, Moved}
@@ -44,12 +44,14 @@ heldOn : DeviceEnd → (n : ℕ) → Input → Held → Held
 heldOn e n (hears condition r) h = pick (eqb n 0) (heldBy e condition r h) h
 heldOn e n asks h = h
 heldOn e n (installs code) h = h
+heldOn e n (digests digest) h = h
 
 held-is : (e : DeviceEnd) (c : DeviceCall Bool) (h : Held) → heldNext e c h ≡ heldOn e (outIn e c .number) (inputOf c) h
 unfolding heldNext heldOn
 held-is e (given supported pcp condition message reply) h = refl
 held-is e (asked reply) h = refl
 held-is e (finished code) h = refl
+held-is e (digestGiven digest) h = refl
 
 -- refused, nothing joins
 held-refused : (e : DeviceEnd) (n : ℕ) (input : Input) (h : Held) → (n ≡ 0 → ⊥) → heldOn e n input h ≡ h
@@ -57,6 +59,7 @@ unfolding heldOn
 held-refused e n (hears condition r) h z = pick-no _ _ _ (ne-eqb n 0 z)
 held-refused e n asks h z = refl
 held-refused e n (installs code) h z = refl
+held-refused e n (digests digest) h z = refl
 
 -- a message that brings nothing
 held-same : (e : DeviceEnd) (n condition : ℕ) (r : Reading DeviceMessage) (input : Input) (h : Held) → input ≡ hears condition r
@@ -83,6 +86,10 @@ held-execute e n condition input h i = held-same e n condition (found execute) i
 held-installs : (e : DeviceEnd) (n code : ℕ) (input : Input) (h : Held) → input ≡ installs code → heldOn e n input h ≡ h
 unfolding heldOn
 held-installs e n code input h i = rw i
+
+held-digests : (e : DeviceEnd) (n : ℕ) (digest : List ℕ) (input : Input) (h : Held) → input ≡ digests digest → heldOn e n input h ≡ h
+unfolding heldOn
+held-digests e n digest input h i = rw i
 
 still-held : (e : DeviceEnd) (h : Held) (input : Input) (n : ℕ) (says : List (List ℕ)) → StillAt e input n says → heldOn e n input h ≡ h
 unfolding heldOn heldBy
@@ -190,6 +197,10 @@ module _ (e : DeviceEnd) (h : Held) (l : Lived e h) (input : Input) where
       subst Then (sym q)
       (lived-on _ (held-installs e 0 code input h i) refl (λ _ r. omega arith)
       (sound-outcome (standing (Among (h .fragments))) (e .device) (e .image) (e .map) code p ok (l .sound)))
+  lived-does o (Views.takes-digest digest i p q) =
+      subst Then (sym q)
+      (lived-on _ (held-digests e 0 digest input h i) refl (λ n. n)
+      (sound-digest (standing (Among (h .fragments))) (e .device) (e .image) (e .map) digest (l .sound)))
 
 pub lived : (cs : List (DeviceCall Bool)) (e : DeviceEnd) (h : Held) → Lived e h → Lived (after deviceNext e cs) (heldAfter e h cs)
 unfolding heldAfter

@@ -3,9 +3,9 @@
 use Prim.Native.Nat.{ℕ}
 use mathlib.Core.Path.{refl, sym, _∙_, ap}
 use mathlib.Core.List.{List, [], _∷_, _++_, List·Memᴰ, List·Memᴰ·head, List·Memᴰ·tail, Memᴰ·append-left, Memᴰ·append-right}
-use Rattle.upgrade.specs.Calls.{DeviceCall, given, asked, finished, GatewayCall, Call, atDevice, atGateway, Ends, Both, next, May}
+use Rattle.upgrade.specs.Calls.{DeviceCall, given, asked, finished, digestGiven, GatewayCall, Call, atDevice, atGateway, Ends, Both, next, May}
 use Rattle.upgrade.specs.Clean.{arriveAtDevice, arriveAtGateway, answeredByDevice, answeredByGateway, gatewayAsked, deviceAsked, UntilSilent, silent}
-use Rattle.upgrade.specs.Clean.{spoken, ending, Reached}
+use Rattle.upgrade.specs.Clean.{spoken, ending, Reached, digestsGiven}
 use Rattle.upgrade.proofs.Folds.{after-append, allowed-last}
 
 -- all of these are on the air
@@ -22,6 +22,17 @@ module _ (e : Ends) (start : Both e) where
     allowed-last (next e) May start calls c allowed (rw q at m),
     ap (λ (v : Both e). next e v c) q ∙ sym (after-append (next e) start calls (c ∷ [])),
   )
+
+  -- ---- digests given
+
+  pub digest-given : (w : Both e) (digest : List ℕ) → Reached e start w → Reached e start (next e w (atDevice (digestGiven digest)))
+  unfolding May
+  digest-given w digest r = reached-next w (atDevice (digestGiven digest)) r tt
+
+  pub digests-given : (digests : List (List ℕ)) (w : Both e) → Reached e start w → Reached e start (digestsGiven e w digests)
+  unfolding digestsGiven
+  digests-given [] w r = r
+  digests-given (d ∷ ds) w r = digests-given ds (next e w (atDevice (digestGiven d))) (digest-given w d r)
 
   module _ (affirmed : e .Fact) (deviceReply gatewayReply : Both e → List ℕ) where
     abbrev atDeviceThen : Both e → List (List ℕ) → Both e

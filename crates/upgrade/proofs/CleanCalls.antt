@@ -122,6 +122,16 @@ module _ (s : Setting) where
       unfolding next deviceDoes
       device-asked = record { device-is = here .device-is; gateway-is = here .gateway-is; sound = here .sound }
 
+      -- any call that leads to d
+      pub device-then : (c : DeviceCall Bool) {d : DeviceEnd} → deviceNext e c ≡ d → At (afterDevice c) d g
+      unfolding next
+      device-then c then =
+          record {
+            device-is = ap (λ (x : DeviceEnd). deviceNext x c) (here .device-is) ∙ then;
+            gateway-is = here .gateway-is;
+            sound = subst Fine then (call-fine e c (here .sound));
+          }
+
       -- it is given a message
       module _ (m : DeviceMessage) (v : toDevice .valid m ≡ true) where
         device-hears : deviceAnswer e true true 0 (bytesOf toDevice m) (s .deviceReply w) ≡ deviceTakes e m (s .deviceReply w)
@@ -135,14 +145,8 @@ module _ (s : Setting) where
             ap (λ (x : DeviceEnd). deviceSays x (givenDevice m)) (here .device-is) ∙ rw device-hears (r (s .deviceReply w))
 
         device-given : {d : DeviceEnd} → ((reply : List ℕ) → left (deviceTakes e m reply) ≡ d) → At (afterDevice (givenDevice m)) d g
-        unfolding next deviceDoes
-        device-given {d = d} t =
-            let then : deviceNext e (givenDevice m) ≡ d = ap left device-hears ∙ t (s .deviceReply w) in
-            record {
-              device-is = ap (λ (x : DeviceEnd). deviceNext x (givenDevice m)) (here .device-is) ∙ then;
-              gateway-is = here .gateway-is;
-              sound = subst Fine then (call-fine e (givenDevice m) (here .sound));
-            }
+        unfolding deviceDoes
+        device-given t = device-then (givenDevice m) (ap left device-hears ∙ t (s .deviceReply w))
 
     -- the gateway's calls
     module _ {e : DeviceEnd} (phase : ℕ) (known : leb phase gateway.ended ≡ true) (here : At w e (gatewayIn s phase)) where

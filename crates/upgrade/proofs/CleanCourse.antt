@@ -1,4 +1,4 @@
--- The clean run of a setting, from the announcement to the end, and that it has one outcome. Assumes nothing.
+-- The clean run of a setting, from the first fragment to the end, and that it has one outcome. Assumes nothing.
 use Prim.Native.Nat.{ℕ, zero, suc, _+_, _-_}
 use native.Mathlib.Omega.{arith}
 use mathlib.Core.Path.{_≡_, refl, ap}
@@ -10,10 +10,10 @@ use Rattle.gateway_record.specs.Record as gateway
 use Rattle.upgrade.specs.Calls.{Ends, Both}
 use Rattle.upgrade.specs.Records.{DeviceEnd, World, records}
 use Rattle.upgrade.specs.Clean.{UntilSilent, silent, spoken, ending}
-use Rattle.upgrade.proofs.CleanSetting.{Setting, total, gatewayIn, endIn, loadingAt, some, total-some}
-use Rattle.upgrade.proofs.CleanCalls.{At, Spoke, asksDevice, asksGateway}
+use Rattle.upgrade.proofs.CleanSetting.{Setting, total, gatewayIn, endIn, loadingAt, begunWith, some, total-some}
+use Rattle.upgrade.proofs.CleanCalls.{At, Spoke, asksDevice}
 use Rattle.upgrade.proofs.CleanLoad.{Front, front-none, front-more}
-use Rattle.upgrade.proofs.CleanSteps.{announced, fetched-one, fetched-last, quiet, reported, executed, ended, succeeded}
+use Rattle.upgrade.proofs.CleanSteps.{fetched-one, fetched-last, quiet, reported, executed, ended, succeeded}
 
 -- asking until there is nothing to send ends in one way at most
 pub one-silence : (e : Ends) (affirmed : e .Fact) (deviceReply gatewayReply : Both e → List ℕ) {w v u : Both e}
@@ -59,26 +59,26 @@ module _ (s : Setting) where
       (fetches n (k + 1) _ _ (asksDevice s w) (front-more (s .content) (s .size) (some s) k image map front (omega arith) (omega arith)) (omega arith)
       (one .leads))
 
-  module _ (w : World) (here : At w (s .first) (gatewayIn s gateway.offer)) where
-    pub fetched : Fetches (asksGateway s w)
+  -- the announcement is taken up, and what is expected is set
+  module _ (w : World) (here : At w (begunWith s (s .expected)) (gatewayIn s gateway.serve)) where
+    pub fetched : Fetches w
     fetched =
-        fetches (total s - 1) 0 _ _ (asksGateway s w) (front-none (s .content) (s .size) (some s) (s .first .image) (s .first .map) (s .image-room)
-        (s .map-room))
-        (omega (arith, total-some s)) (announced s w here)
+        fetches (total s - 1) 0 _ _ w (front-none (s .content) (s .size) (some s) (s .first .image) (s .first .map) (s .image-room) (s .map-room))
+        (omega (arith, total-some s)) here
 
     pub ends : (v : World) → Fetched v → ending (records (s .content)) true (s .deviceReply) (s .gatewayReply) v .gateway ≡ gatewayIn s gateway.ended
     ends v f =
         succeeded s _ _ _ _ _ (ended s _ _ _ _ _ (executed s _ _ _ _ v (f .here))) .leads .gateway-is
 
-    -- whenever the device is silent after the announcement, the rest of the run ends the gateway with success
-    pub succeeds : (v : World) → Until (asksGateway s w) v → ending (records (s .content)) true (s .deviceReply) (s .gatewayReply) v .gateway
+    -- whenever the device is silent after that, the rest of the run ends the gateway with success
+    pub succeeds : (v : World) → Until w v → ending (records (s .content)) true (s .deviceReply) (s .gatewayReply) v .gateway
         ≡ gatewayIn s gateway.ended
     succeeds v until =
         let (u, other, f) = fetched in
         rw (one-silence (records (s .content)) true (s .deviceReply) (s .gatewayReply) until other) (ends u f)
 
     -- and the gateway is in Run
-    pub runs : (v : World) → Until (asksGateway s w) v → v .gateway .phase ≡ gateway.run
+    pub runs : (v : World) → Until w v → v .gateway .phase ≡ gateway.run
     runs v until =
         let (u, other, f) = fetched in
         rw (one-silence (records (s .content)) true (s .deviceReply) (s .gatewayReply) until other) (ap (λ (g : Gateway). g .phase) (f .here .gateway-is))

@@ -13,7 +13,9 @@ use Rattle.message.specs.Limits.{deviceRoom, gatewayRoom, sizeMin, sizeMax, siz
 use Rattle.message.specs.Version.{goodVersion}
 use Rattle.message.specs.declared.Fields.{Fields}
 use Rattle.device_record.specs.declared.Device.{Device}
+use Rattle.device_record.specs.declared.Expected.{Expected}
 use Rattle.device_record.specs.Record as device
+use Rattle.bitmap.specs.Bitmap.{cleared}
 use Rattle.device.specs.Rules as device-rules
 use Rattle.gateway_record.specs.declared.Gateway.{Gateway}
 use Rattle.gateway_record.specs.Record as gateway
@@ -21,7 +23,7 @@ use Rattle.gateway_record.proofs.Package.{total-some as some-total, total-most}
 use Rattle.upgrade.specs.Records.{DeviceEnd, World}
 use Rattle.upgrade.proofs.Count.{Fine}
 
--- what a clean run is given, and what is known of it
+-- what a clean run is given, and what is known of it: the package passes the code, and the digest that is expected while it is fetched, if one is
 pub record Setting : Type 0 where
   pub content : List ℕ
   pub deviceReply : World → List ℕ
@@ -29,6 +31,7 @@ pub record Setting : Type 0 where
   pub version : List ℕ
   pub size : ℕ
   pub code : ℕ
+  pub expected : Expected
   pub first : DeviceEnd
   pub device-room : (w : World) → deviceRoom ≤ length (deviceReply w)
   pub gateway-room : (w : World) → gatewayRoom ≤ length (gatewayReply w)
@@ -36,7 +39,7 @@ pub record Setting : Type 0 where
   pub size-ok : sizeOk size ≡ true
   pub length-ok : gateway.lengthOk (length content) size ≡ true
   pub code-word : isWord code ≡ true
-  pub code-passes : device-rules.passes code content ≡ true
+  pub passes : device-rules.passes code expected content ≡ true
   pub idle : first .device .phase ≡ device.idle
   pub sound : Fine first
   pub another : same version (first .device .running) ≡ false
@@ -56,7 +59,7 @@ module _ (s : Setting) where
 
   abbrev pub deviceIn : (phase : ℕ) (running : List ℕ) (stored last outcome : ℕ) → Device
   deviceIn phase running stored last outcome =
-      record { phase = phase; running = running; fields = fields; stored = stored; last = last; outcome = outcome }
+      record { phase = phase; running = running; fields = fields; stored = stored; last = last; outcome = outcome; expected = s .expected }
 
   -- the device's end until the installer ends; with the first k fragments
   abbrev pub endIn : (phase stored last : ℕ) (image map : List ℕ) → DeviceEnd
@@ -66,7 +69,24 @@ module _ (s : Setting) where
   abbrev pub loadingAt : (k : ℕ) (image map : List ℕ) → DeviceEnd
   loadingAt k image map = endIn device.loading k 0 image map
 
-  -- the device's end from then on
+  -- the device's end once the announcement is taken up, whichever digest is then expected
+  abbrev pub begunWith : Expected → DeviceEnd
+  begunWith expected =
+      record {
+        device = record {
+          phase = device.loading;
+          running = s .first .device .running;
+          fields = fields;
+          stored = 0;
+          last = 0;
+          outcome = s .first .device .outcome;
+          expected = expected;
+        };
+        image = s .first .image;
+        map = cleared (device.mapBytes total) (s .first .map);
+      }
+
+  -- the device's end from the installer's on
   abbrev pub updatedIn : (phase stored last : ℕ) (image map : List ℕ) → DeviceEnd
   updatedIn phase stored last image map = record { device = deviceIn phase (s .version) stored last 0; image = image; map = map }
 

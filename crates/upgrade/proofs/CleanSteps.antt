@@ -3,12 +3,13 @@ use Prim.Native.Nat.{ℕ, _+_, _*_, _≤_, _<_}
 use native.Mathlib.Omega.{arith}
 use mathlib.Core.Path.{_≡_, refl, _∙_, ap}
 use mathlib.Core.Bool.{Bool, true, false}
-use mathlib.Core.List.{List}
+use mathlib.Core.List.{List, [], _∷_}
+use lib.Dec.{eqb}
 use lib.ListN.{length}
-use borrow.Author.Tests.{le-leb, lt-ltb, le-ltb, eq-eqb, ne-eqb, eqb-false}
+use borrow.Author.Tests.{le-leb, lt-ltb, le-ltb, eq-eqb, ne-eqb, eqb-true, eqb-false}
 use Rattle.basis.specs.Choice.{pick, refusal, oneOf}
 use Rattle.basis.specs.Bytes.{same, patched}
-use Rattle.basis.proofs.Choosing.{by-cases, and-both}
+use Rattle.basis.proofs.Choosing.{by-cases, pick-no, and-both}
 use Rattle.basis.proofs.Lists.{same-refl}
 use Rattle.message.specs.Limits.{sizeMax, isWord}
 use Rattle.message.specs.Messages.{announce, fragment, downloadReply, execute, resultReply, fragmentOk, announceReply, fragmentRequest}
@@ -17,8 +18,10 @@ use Rattle.message.specs.Messages.{toDevice}
 use Rattle.codec.specs.Codec.{said}
 use Rattle.message.specs.declared.Fields.{Fields}
 use Rattle.device_record.specs.declared.Device.{Device}
+use Rattle.device_record.specs.declared.Expected.{Expected}
 use Rattle.device_record.specs.Record as device
-use Rattle.bitmap.specs.Bitmap.{mark, cleared}
+use Rattle.bitmap.specs.Bitmap.{mark}
+use Rattle.device.specs.declared.DigestAnswer.{DigestAnswer}
 use Rattle.device.specs.Rules as device-rules
 use Rattle.device_decisions.proofs.Tested.{new-one}
 use Rattle.device.proofs.Standing.{standing}
@@ -27,13 +30,15 @@ use Rattle.gateway_record.specs.Record as gateway
 use Rattle.gateway_decisions.specs.Decisions as decisions
 use Rattle.gateway.specs.Rules as gateway-rules
 use Rattle.gateway_record.proofs.Package.{stretch-fits}
-use Rattle.upgrade.specs.Calls.{finished, atDevice, next}
-use Rattle.upgrade.specs.Records.{DeviceEnd, World, records, deviceDoes}
-use Rattle.upgrade.specs.Clean.{askedNumber}
-use Rattle.upgrade.proofs.Count.{any, call-fine}
-use Rattle.upgrade.proofs.CleanSetting.{Setting, total, fields, gatewayIn, endIn, loadingAt, updatedIn, some, size-most, total-fits, total-ok}
-use Rattle.upgrade.proofs.CleanCalls.{left, At, Spoke, aired-message, asksGateway, deviceTakes, gatewayTakes, device-number, device-exchange}
-use Rattle.upgrade.proofs.CleanCalls.{gateway-exchange}
+use Rattle.upgrade.specs.Calls.{finished, digestGiven, atDevice, next}
+use Rattle.upgrade.specs.Records.{DeviceEnd, deviceDigestAnswer, World, records, deviceDoes}
+use Rattle.upgrade.specs.Clean.{digestsGiven, askedNumber}
+use Rattle.upgrade.proofs.Count.{any, Fine}
+use Rattle.upgrade.proofs.Ends.{deviceNumber}
+use Rattle.upgrade.proofs.CleanSetting.{Setting, total, fields, gatewayIn, endIn, loadingAt, begunWith, updatedIn, some, size-most, total-fits}
+use Rattle.upgrade.proofs.CleanSetting.{total-ok}
+use Rattle.upgrade.proofs.CleanCalls.{left, At, Spoke, aired-message, asksGateway, deviceTakes, gatewayTakes, device-number, device-then}
+use Rattle.upgrade.proofs.CleanCalls.{device-exchange, gateway-exchange}
 use Rattle.upgrade.proofs.CleanLoad.{Front, lowest, new, fragment-some, fragment-full, complete}
 
 -- an Idle device with another version and room takes an announcement up
@@ -53,12 +58,55 @@ module _ (s : Setting) where
   taken-up reply = begins (s .first .device) (s .first .image) (s .first .map) reply (fields s) (s .idle) (s .another) (s .image-room) (s .map-room)
 
   pub announced : (w : World) → At w (s .first) (gatewayIn s gateway.offer)
-      → At (asksGateway s w) (loadingAt s 0 (s .first .image) (cleared (device.mapBytes (total s)) (s .first .map))) (gatewayIn s gateway.serve)
+      → At (asksGateway s w) (begunWith s device.noDigest) (gatewayIn s gateway.serve)
   unfolding device-rules.begin gateway-rules.wanted gateway-rules.handle gateway-rules.onAnnounceReply deviceRow gatewayRow oneOf pick
   announced w here =
       gateway-exchange s w (s .first) gateway.offer here refl (announce (fields s)) (announceReply 0x00)
       refl (and-both (s .version-good) (and-both (s .size-ok) (and-both (total-ok s) (s .code-word)))) (λ reply. ap left (taken-up reply))
       (λ reply. rw (taken-up reply) (aired-message toGateway (announceReply 0x00) reply)) refl (λ _. refl)
+
+  -- ---- a digest given before the first fragment
+
+  -- one of 16 bytes is expected from then on
+  digest-taken : (x : Expected) (digest : List ℕ) → Fine (begunWith s x) → length digest ≡ 16
+      → deviceDigestAnswer (begunWith s x .device) digest ≡ record { number = 0; device = begunWith s (device.digestSet digest) .device }
+  unfolding device-rules.giveDigestOf refusal pick
+  digest-taken x digest sound l =
+      let e : DeviceEnd = begunWith s x in
+      rw (eq-eqb (length digest) 16 l, sound-record (standing any) (e .device) (e .image) (e .map) sound)
+
+  module _ (w : World) (x : Expected) (here : At w (begunWith s x) (gatewayIn s gateway.serve)) (digest : List ℕ) where
+    pub digest-number : length digest ≡ 16 → deviceNumber (w .deviceEnd) (digestGiven digest) ≡ 0
+    unfolding deviceDoes
+    digest-number l =
+        ap (λ (e : DeviceEnd). deviceNumber e (digestGiven digest)) (here .device-is)
+        ∙ ap (λ (g : DigestAnswer). g .number) (digest-taken x digest (here .sound) l)
+
+    digest-leads : (y : Expected) → deviceDigestAnswer (begunWith s x .device) digest .device ≡ begunWith s y .device
+        → At (next (records (s .content)) w (atDevice (digestGiven digest))) (begunWith s y) (gatewayIn s gateway.serve)
+    unfolding deviceDoes
+    digest-leads y e =
+        device-then s w here (digestGiven digest) (ap (λ (d : Device). record { device = d; image = begunWith s x .image; map = begunWith s x .map }) e)
+
+    pub digest-expected : length digest ≡ 16
+        → At (next (records (s .content)) w (atDevice (digestGiven digest))) (begunWith s (device.digestSet digest)) (gatewayIn s gateway.serve)
+    digest-expected l = digest-leads (device.digestSet digest) (ap (λ (g : DigestAnswer). g .device) (digest-taken x digest (here .sound) l))
+
+  -- the device goes on to load, whichever digest is then expected
+  abbrev pub Begun : World → Type 0
+  Begun w = (x : Expected) × At w (begunWith s x) (gatewayIn s gateway.serve)
+
+  digest-begun : (w : World) (digest : List ℕ) → Begun w → Begun (next (records (s .content)) w (atDevice (digestGiven digest)))
+  digest-begun w digest (x, here) = at (eqb (length digest) 16) refl
+    where
+      at : (t : Bool) → eqb (length digest) 16 ≡ t → Begun (next (records (s .content)) w (atDevice (digestGiven digest)))
+      at true e = (device.digestSet digest, digest-expected w x here digest (eqb-true (length digest) 16 e))
+      at false e = (x, digest-leads w x here digest x (ap (λ (g : DigestAnswer). g .device) (pick-no _ _ _ e)))
+
+  pub digests-begun : (digests : List (List ℕ)) (w : World) → Begun w → Begun (digestsGiven (records (s .content)) w digests)
+  unfolding digestsGiven
+  digests-begun [] w g = g
+  digests-begun (d ∷ ds) w g = digests-begun ds (next (records (s .content)) w (atDevice (digestGiven d))) (digest-begun w d g)
 
   -- ---- a fragment
 
@@ -129,7 +177,7 @@ module _ (s : Setting) where
       fetched-last h = fetched after
         where
           after : (reply : List ℕ) → left (storing reply) ≡ endIn s device.loaded (k + 1) (length bytes) filled (mark k map)
-          after reply = rw (eq-eqb (k + 1) (total s) h, complete (s .content) (s .size) (some s) k image map front more h, s .code-passes)
+          after reply = rw (eq-eqb (k + 1) (total s) h, complete (s .content) (s .size) (some s) k image map front more h, s .passes)
 
   -- ---- from the last fragment to the end
 
@@ -157,11 +205,11 @@ module _ (s : Setting) where
 
     pub ended : At w (endIn s device.installing stored last image map) (gatewayIn s gateway.run)
         → At (next (records (s .content)) w (atDevice (finished 0x00))) (updatedIn s device.reporting stored last image map) (gatewayIn s gateway.run)
-    unfolding next deviceDoes device-rules.installFinishedOf refusal installCode oneOf pick
+    unfolding deviceDoes device-rules.installFinishedOf refusal installCode oneOf pick
     ended here =
         let e : DeviceEnd = endIn s device.installing stored last image map in
         let good : device.recordOk (e .device) ≡ true = sound-record (standing any) (e .device) image map (here .sound) in
-        rw (here .device-is, good) record { device-is = refl; gateway-is = here .gateway-is; sound = rw good at (call-fine e (finished 0x00) (here .sound)) }
+        device-then s w here (finished 0x00) (rw good)
 
     pub succeeded : At w (updatedIn s device.reporting stored last image map) (gatewayIn s gateway.run)
         → Spoke s w (updatedIn s device.idle stored last image map) (gatewayIn s gateway.ended)

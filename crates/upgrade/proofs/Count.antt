@@ -15,10 +15,12 @@ use Rattle.device.proofs.Standing.{standing, standing-does}
 use Rattle.device.proofs.Not29Not14.{receive-neither, ask-neither, install-neither}
 use Rattle.upgrade.specs.Fold.{after}
 use Rattle.upgrade.specs.Counted.{Counted, Count, Roomy, Room, lentNext}
-use Rattle.upgrade.specs.Calls.{DeviceCall, given, asked, finished}
+use Rattle.upgrade.specs.Calls.{DeviceCall, given, asked, finished, digestGiven}
 use Rattle.upgrade.specs.Records.{DeviceEnd, deviceNext, deviceRecords, deviceDoes}
 use Rattle.upgrade.proofs.Ends.{deviceNumber}
-use Rattle.upgrade.proofs.AnyImage.{Kept, kept-by, kept-record, kept-given, kept-installed, given-unmet, asked-unmet, installed-unmet}
+use Rattle.upgrade.proofs.DeviceCalls.{digest-given-does, digest-given-neither}
+use Rattle.upgrade.proofs.AnyImage.{Kept, kept-by, kept-record, kept-given, kept-installed, kept-digest-given, given-unmet, asked-unmet}
+use Rattle.upgrade.proofs.AnyImage.{installed-unmet, digest-given-unmet}
 
 -- of the stored bytes nothing in particular is known
 pub any : ℕ → List ℕ → Type 0
@@ -41,6 +43,8 @@ call-fine e (given supported pcp condition message reply) s =
 call-fine e (asked reply) s = s
 call-fine e (finished code) s =
     standing-does any (e .device) (e .image) (e .map) _ _ (install-does (e .device) (e .image) (e .map) code) (λ _ _ _ _ _. tt) s
+call-fine e (digestGiven digest) s =
+    standing-does any (e .device) (e .image) (e .map) _ _ (digest-given-does (e .device) (e .image) (e .map) digest) (λ _ _ _ _ _. tt) s
 
 pub run-fine : (calls : List (DeviceCall Bool)) (e : DeviceEnd) → Fine e → Fine (after deviceNext e calls)
 run-fine [] e s = s
@@ -64,6 +68,7 @@ room version image map made calls =
         receive-neither rule (e .device) (e .image) (e .map) s reply supported pcp condition message .1
     not-14 e s (asked reply) = ask-neither rule (e .device) (e .image) (e .map) s reply .1
     not-14 e s (finished code) = install-neither rule (e .device) (e .image) (e .map) s code .1
+    not-14 e s (digestGiven digest) = digest-given-neither rule (e .device) (e .image) (e .map) s digest .1
 
     roomy : (e : DeviceEnd) → Fine e → Roomy deviceRecords e
     roomy e s = record { room-holds = sound-room rule (e .device) (e .image) (e .map) s; not-14 = not-14 e s }
@@ -79,6 +84,7 @@ call-kept e (image, given supported pcp condition message reply) k =
     kept-given (e .device) image (e .map) reply supported pcp condition message k
 call-kept e (image, asked reply) k = k
 call-kept e (image, finished code) k = kept-installed (e .device) (e .map) code k
+call-kept e (image, digestGiven digest) k = kept-digest-given (e .device) (e .map) digest k
 
 run-kept : (calls : List (List ℕ × DeviceCall Bool)) (e : DeviceEnd) → KeptIn e → KeptIn (after (lentNext deviceRecords) e calls)
 run-kept [] e k = k
@@ -99,6 +105,7 @@ count version map made calls =
         given-unmet (e .device) image (e .map) reply supported pcp condition message (kept-record (e .device) (e .map) k)
     not-29 e k image (asked reply) = asked-unmet (e .device) image (e .map) reply k
     not-29 e k image (finished code) = installed-unmet (e .device) (e .map) code k
+    not-29 e k image (digestGiven digest) = digest-given-unmet (e .device) (e .map) digest k
 
     counted : (e : DeviceEnd) → KeptIn e → Counted deviceRecords e
     counted e k =

@@ -88,6 +88,7 @@ module _ (e : DeviceEnd) (condition : ℕ) (input : Input) (i : input ≡ hears 
       full (inl r) = omega arith
       full (inr r) = omega arith
   answered o s (Views.reports code j l ok q) = absurd (let z : _≡_ {A = ℕ} 0 1 = cc in omega arith)
+  answered o s (Views.takes-digest digest j l q) = absurd (let z : _≡_ {A = ℕ} 0 1 = cc in omega arith)
 
   -- it takes up no announcement and stores no fragment
   answered-kept : (o : Out) → DoesAt e input o → (o .device .fields ≡ e .device .fields) × (o .device .last ≡ e .device .last)
@@ -98,6 +99,7 @@ module _ (e : DeviceEnd) (condition : ℕ) (input : Input) (i : input ≡ hears 
   answered-kept o (Views.moves phase m q) = (ap (λ (z : Out). z .device .fields) q, ap (λ (z : Out). z .device .last) q)
   answered-kept o (Views.executes c j l q) = (ap (λ (z : Out). z .device .fields) q, ap (λ (z : Out). z .device .last) q)
   answered-kept o (Views.reports code j l ok q) = (ap (λ (z : Out). z .device .fields) q, ap (λ (z : Out). z .device .last) q)
+  answered-kept o (Views.takes-digest digest j l q) = (ap (λ (z : Out). z .device .fields) q, ap (λ (z : Out). z .device .last) q)
 
 -- the package stands in the image, and the record says how long it is
 record Whole (content : List ℕ) (e : DeviceEnd) : Type 0 where

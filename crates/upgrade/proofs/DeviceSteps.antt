@@ -23,7 +23,7 @@ use Rattle.gateway_record.proofs.Package.{stretch-fits, stretch-within}
 use Rattle.upgrade.specs.Records.{DeviceEnd, World}
 use Rattle.upgrade.proofs.Air.{Air, air-none, air-one, air-map, air-more}
 use Rattle.upgrade.proofs.DeviceCalls.{endOf, DoesAt, StillAt, BeginsAt, ResumesAt, StoresAt, RepeatsAt, stillAt, begunAt, storedAt}
-use Rattle.upgrade.proofs.DeviceCalls.{movedAt, outcomeAt, Moved, moves-to, holding-below, completion-low, other-version}
+use Rattle.upgrade.proofs.DeviceCalls.{movedAt, outcomeAt, digestGivenAt, Moved, moves-to, holding-below, completion-low, other-version}
 use Rattle.upgrade.proofs.Run.{Plan, SoundEnd, NotEnded, Offering, Stretch, RunsTarget, GatewaySaid, DeviceSaid, more-served, more-said, Untaken, Taken}
 use Rattle.upgrade.proofs.Run.{Run, untaken, taken}
 
@@ -187,6 +187,10 @@ module _ (p : Plan) (w : World) {E E′ I I′ : Type 0} (j : E → E′) (k : I
     reports-untaken code running q =
         not-taken _ [] refl refl (λ r. absurd (r .1 q)) (λ h. absurd (false≢true h)) (air-none toGateway)
 
+    digest-untaken : (digest : List ℕ) → Next (digestGivenAt e digest)
+    unfolding Next
+    digest-untaken digest = not-taken _ [] refl refl (λ r. r) (λ q. q) (air-none toGateway)
+
     module _ (input : Input) (o : Out) (h : Brought (GatewaySaid p ⊥) input) where
       untaken-next : DoesAt e input o → Next o
       untaken-next (Views.still n says s q) = subst Next (sym q) (still-untaken input h n says s)
@@ -196,6 +200,7 @@ module _ (p : Plan) (w : World) {E E′ I I′ : Type 0} (j : E → E′) (k : I
       untaken-next (Views.moves phase m q) = subst Next (sym q) (moves-untaken phase (moves-to e input phase m))
       untaken-next (Views.executes c i l q) = absurd (h c execute i)
       untaken-next (Views.reports code i l ok q) = subst Next (sym q) (reports-untaken code _ l)
+      untaken-next (Views.takes-digest digest i l q) = subst Next (sym q) (digest-untaken digest)
 
       pub untaken-does : DoesAt e input o → After (endOf o) (o .says)
       unfolding Next
@@ -252,7 +257,7 @@ module _ (p : Plan) (w : World) {E E′ I I′ : Type 0} (j : E → E′) (k : I
         (package-past p (e .device .fields) (e .image) index bytes (t .fields-are) room (s .below) b ∙ t .past-kept) (air-none toGateway)
       where
         low : storedAt e index bytes .device .phase ≤ failed
-        low = completion-low _ _ _ _
+        low = completion-low _ _ _ _ _
 
         room : e .device .fields .size * e .device .fields .total ≤ length (e .image)
         room = t .sound .download (λ q. omega (arith, s .phase)) .holds .image-room
@@ -278,6 +283,11 @@ module _ (p : Plan) (w : World) {E E′ I I′ : Type 0} (j : E → E′) (k : I
     reports-taken code running l x =
         stays-taken _ [] (t .fields-are) (λ q. absurd (omega (arith, q))) (λ _ z. x z (t .installs l)) (t .past-kept) (air-none toGateway)
 
+    digest-taken : (digest : List ℕ) → e .device .phase ≡ loading → Then (digestGivenAt e digest)
+    unfolding Then
+    digest-taken digest l =
+        stays-taken _ [] (t .fields-are) (λ q. absurd (omega (arith, l, q))) (λ q. absurd (omega (arith, l, q))) (t .past-kept) (air-none toGateway)
+
     -- what makes Execute answered 00, and the install ended with 00 after it, is for the caller to say
     module _ (input : Input) (o : Out) (h : Brought (GatewaySaid p (Unit {0})) input)
         (x : (condition : ℕ) → input ≡ hears condition (found execute) → o .says ≡ spoken (executeReply 0x00) → E′)
@@ -292,6 +302,7 @@ module _ (p : Plan) (w : World) {E E′ I I′ : Type 0} (j : E → E′) (k : I
       taken-next (Views.executes c i l q) = subst Then (sym q) (executes-taken (x c i (ap (λ (z : Out). z .says) q)))
       taken-next (Views.reports code i l ok q) =
           subst Then (sym q) (reports-taken code _ l (λ z. y (i ∙ ap installs z) (ap (λ (v : Out). v .number) q)))
+      taken-next (Views.takes-digest digest i l q) = subst Then (sym q) (digest-taken digest l)
 
       pub taken-does : DoesAt e input o → After (endOf o) (o .says)
       unfolding Then

@@ -1,6 +1,7 @@
 pub mod Ends
 pub mod AnyImage
 pub mod Count
+pub mod TestedBytes
 pub mod Folds
 pub mod Air
 pub mod Run

@@ -43,7 +43,7 @@ unfolding pick refusal oneOf part same over patched doubled entryOf step registe
     device-record.newOf device-record.downloadOk device-record.recordOk device-record.mapBytes device-record.memoryOk device.begin device.store
     device.onQuery device.onAnnounce device.onFragment device.onDownloadReply device.onExecute device.onResultReply device.handle device.receiveOf
     device.wanted device.nextMessageOf device.installFinishedOf device.announceResult device.sameFields device.resumes device.fragmentLength
-    device.repeatRefusal device.fragmentRefusal device.passes device.completion device.executeResult
+    device.repeatRefusal device.fragmentRefusal device.checkPasses device.digestPasses device.passes device.completion device.executeResult
     gateway-record.totalOf gateway-record.lengthOk gateway-record.fragmentOf
     gateway-record.startOf gateway-record.recordOk decisions.afterQuery decisions.serving decisions.fragmentResult decisions.installEnding
     gateway.fragmentReply gateway.onQueryReply gateway.onAnnounceReply gateway.onFragmentRequest gateway.onDownloadReport gateway.onExecuteReply

@@ -11,7 +11,7 @@ use Rattle.round_trips.proofs.WrittenRead.{device-told, gateway-told}
 use Rattle.device_record.specs.Record.{loading}
 use Rattle.device.proofs.Views.{hears, installs, spoken, does-other}
 use Rattle.gateway_record.specs.Record as gateway
-use Rattle.upgrade.specs.Calls.{DeviceCall, given, asked, finished, GatewayCall, atDevice, atGateway, next, May}
+use Rattle.upgrade.specs.Calls.{DeviceCall, given, asked, finished, digestGiven, GatewayCall, atDevice, atGateway, next, May}
 use Rattle.upgrade.specs.Records.{World, records, deviceDoes}
 use Rattle.upgrade.specs.Claims.{Executed, Installed}
 use Rattle.upgrade.proofs.Air.{Air, Heard, air-heard}
@@ -39,6 +39,7 @@ module _ (w : World) where
       air-heard toDevice device-told (w .fromGateway) air supported pcp message m n r
   device-hears (asked reply) air m = λ _ n e. absurd (let z : _≡_ {A = ℕ} 0 1 = cc in omega arith)
   device-hears (finished code) air m = λ _ n e. absurd (let z : _≡_ {A = ℕ} 0 1 = cc in omega arith)
+  device-hears (digestGiven digest) air m = λ _ n e. absurd (let z : _≡_ {A = ℕ} 0 1 = cc in omega arith)
 
   -- ---- the two events
 
@@ -49,6 +50,7 @@ module _ (w : World) where
       (r, says-is (w .deviceEnd) (given supported pcp condition message reply) ∙ s)
   is-executed content (asked reply) k i s = absurd (let z : _≡_ {A = ℕ} 0 1 = cc in omega arith)
   is-executed content (finished code) k i s = absurd (let z : _≡_ {A = ℕ} 0 1 = cc in omega arith)
+  is-executed content (digestGiven digest) k i s = absurd (let z : _≡_ {A = ℕ} 0 1 = cc in omega arith)
 
   is-installed : (content : List ℕ) (c : DeviceCall Bool) → inputOf c ≡ installs 0x00 → outIn (w .deviceEnd) c .number ≡ 0
       → Installed (records content) w (atDevice c)
@@ -56,6 +58,7 @@ module _ (w : World) where
   is-installed content (given supported pcp condition message reply) i n = absurd (let z : _≡_ {A = ℕ} 0 1 = cc in omega arith)
   is-installed content (asked reply) i n = absurd (let z : _≡_ {A = ℕ} 0 1 = cc in omega arith)
   is-installed content (finished code) i n = (let r : code ≡ 0x00 = cc in r, n)
+  is-installed content (digestGiven digest) i n = absurd (let z : _≡_ {A = ℕ} 0 1 = cc in omega arith)
 
 -- ---- a call
 

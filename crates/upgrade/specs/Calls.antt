@@ -15,11 +15,12 @@ aired length buffer = pick (eqb length 0) [] (take length buffer ∷ [])
 
 -- ---- the calls, with any bytes, condition, reply buffer and code; F is the form in which a recognition fact is given
 
--- a message is given, the next message is asked for, the installer ends
+-- a message is given, the next message is asked for, the installer ends, a digest is given (02, 2026-05)
 pub data DeviceCall (F : Type 0) : Type 0 where
   given : (supported pcp : F) (condition : ℕ) (message reply : List ℕ) → DeviceCall F
   asked : (reply : List ℕ) → DeviceCall F
   finished : (code : ℕ) → DeviceCall F
+  digestGiven : (digest : List ℕ) → DeviceCall F
 
 pub data GatewayCall (F : Type 0) : Type 0 where
   given : (supported pcp : F) (message reply : List ℕ) → GatewayCall F
@@ -83,5 +84,6 @@ unfoldable pub May : {D G F : Type 0} → Exchange D G → Call F → Type 0
 May w (atDevice (given supported pcp condition message reply)) = List·Memᴰ message (w .fromGateway)
 May w (atDevice (asked reply)) = Unit {0}
 May w (atDevice (finished code)) = Unit {0}
+May w (atDevice (digestGiven digest)) = Unit {0}
 May w (atGateway (GatewayCall.given supported pcp message reply)) = List·Memᴰ message (w .fromDevice)
 May w (atGateway (GatewayCall.asked reply)) = Unit {0}

@@ -10,7 +10,7 @@ use Rattle.device_record.specs.declared.Device.{Device}
 use Rattle.device_decisions.specs.Decisions.{trueLength}
 use Rattle.gateway_record.specs.Record as gateway
 use Rattle.upgrade.specs.Fold.{after, Allowed}
-use Rattle.upgrade.specs.Calls.{given, asked, finished, Call, atDevice, atGateway, Ends, Both, next, May}
+use Rattle.upgrade.specs.Calls.{given, asked, finished, digestGiven, Call, atDevice, atGateway, Ends, Both, next, May}
 
 module _ (e : Ends) where
   -- The call gave the device a 23 and brought the reply 23 with 00.
@@ -20,6 +20,7 @@ module _ (e : Ends) where
       × (e .device .does (w .deviceEnd) (given supported pcp condition message reply) .says ≡ bytesOf toGateway (executeReply 0x00) ∷ [])
   Executed w (atDevice (asked reply)) = ⊥
   Executed w (atDevice (finished code)) = ⊥
+  Executed w (atDevice (digestGiven digest)) = ⊥
   Executed w (atGateway c) = ⊥
 
   -- The call was an installer's end with 00, answered 0.
@@ -27,6 +28,7 @@ module _ (e : Ends) where
   Installed w (atDevice (given supported pcp condition message reply)) = ⊥
   Installed w (atDevice (asked reply)) = ⊥
   Installed w (atDevice (finished code)) = (code ≡ 0x00) × (e .device .does (w .deviceEnd) (finished code) .number ≡ 0)
+  Installed w (atDevice (digestGiven digest)) = ⊥
   Installed w (atGateway c) = ⊥
 
   -- The number with which a call is answered.

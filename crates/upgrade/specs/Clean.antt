@@ -4,20 +4,25 @@ use mathlib.Core.Path.{_≡_}
 use mathlib.Core.Bool.{true, false}
 use mathlib.Core.List.{List}
 use lib.ListN.{length}
-use Rattle.basis.specs.Numbers.{noUse}
+use Rattle.basis.specs.Numbers.{handled, noUse}
 use Rattle.basis.specs.Bytes.{same}
+use Rattle.md5.specs.Md5.{md5Of}
 use Rattle.message.specs.Limits.{deviceRoom, gatewayRoom}
 use Rattle.device_record.specs.Record.{idle, mapBytes}
 use Rattle.gateway_record.specs.Record as gateway
 use Rattle.upgrade.specs.Fold.{after, Allowed}
-use Rattle.upgrade.specs.Calls.{DeviceCall, given, asked, finished, GatewayCall, Call, atDevice, atGateway, Ends, Both, next, May}
+use Rattle.upgrade.specs.Calls.{DeviceCall, given, asked, finished, digestGiven, GatewayCall, Call, atDevice, atGateway, Ends, Both, next, May}
 use Rattle.upgrade.specs.Records.{records, World}
-use Rattle.upgrade.specs.Claims.{Success, reached}
+use Rattle.upgrade.specs.Claims.{numberOf, Success, reached}
 use Rattle.upgrade.specs.Demand3.{Before, Ready, deviceThen, start}
 
 -- some list of calls that demand 3 allows leads from the start to here
 abbrev pub Reached : (e : Ends) (start here : Both e) → Type 0
 Reached e start here = (calls : List (Call (e .Fact))) × Allowed (next e) May start calls × (here ≡ reached e start calls)
+
+-- digests that are given to the device, one after the other
+unfoldable pub digestsGiven : (e : Ends) → Both e → List (List ℕ) → Both e
+digestsGiven e = after (λ w digest. next e w (atDevice (digestGiven digest)))
 
 -- Both facts are given as `affirmed`: true over records, any byte that means yes over hosts. A call made in the state w is lent the reply
 -- buffer `deviceReply w` or `gatewayReply w`: each call may get another.
@@ -64,17 +69,29 @@ module _ (e : Ends) (affirmed : e .Fact) (deviceReply gatewayReply : Both e → 
   abbrev pub ending : Both e → Both e
   ending v = deviceAsked (next e (gatewayAsked v) (atDevice (finished 0x00)))
 
-  -- The device falls silent, and whenever it has, the gateway is in Run and the rest of the run leaves it Ended with 0. Lists of
-  -- calls that demand 3 allows lead to both states, so its claims hold of them.
-  abbrev pub CleanRunOf : (start : Both e) → Type 0
-  CleanRunOf start =
-      let first : Both e = gatewayAsked start in
+  -- From the state `first` on the device falls silent, and whenever it has, the gateway is in Run and the rest of the run leaves it Ended with
+  -- 0. Lists of calls that demand 3 allows lead from the start to both states, so its claims hold of them.
+  abbrev pub SucceedsFrom : (start first : Both e) → Type 0
+  SucceedsFrom start first =
       ((v : Both e) × UntilSilent first v)
       × ((v : Both e) → UntilSilent first v →
       Reached e start v
       × (e .gateway .gateway (v .gateway) .phase ≡ gateway.run)
       × Reached e start (ending v)
       × Success e (ending v))
+
+  -- the gateway is asked, and the rest follows
+  abbrev pub CleanRunOf : (start : Both e) → Type 0
+  CleanRunOf start = SucceedsFrom start (gatewayAsked start)
+
+  -- The same with digests (02, 2026-05): once the announcement was answered, the device is given any, of whatever value and length, and as the last
+  -- one the package's, which is answered 0.
+  abbrev pub CleanRunWithDigestsOf : (start : Both e) (content : List ℕ) → Type 0
+  CleanRunWithDigestsOf start content =
+      (others : List (List ℕ)) →
+      let then : Both e = digestsGiven e (gatewayAsked start) others in
+      let call : Call (e .Fact) = atDevice (digestGiven (md5Of content)) in
+      (numberOf e then call ≡ handled) × SucceedsFrom start (next e then call)
 
 -- The device starts Idle with another version, and all buffers are long enough.
 pub record CleanStart (b : Before) (deviceReply gatewayReply : World → List ℕ) : Type 0 where
@@ -90,3 +107,8 @@ abbrev pub CleanRun : Type 0
 CleanRun =
     (b : Before) (deviceReply gatewayReply : World → List ℕ) → CleanStart b deviceReply gatewayReply →
     CleanRunOf (records (b .content)) true deviceReply gatewayReply (start b)
+
+abbrev pub CleanRunWithDigests : Type 0
+CleanRunWithDigests =
+    (b : Before) (deviceReply gatewayReply : World → List ℕ) → CleanStart b deviceReply gatewayReply →
+    CleanRunWithDigestsOf (records (b .content)) true deviceReply gatewayReply (start b) (b .content)

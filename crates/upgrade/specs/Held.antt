@@ -10,7 +10,7 @@ use Rattle.message.specs.Messages.{DeviceMessage, query, announce, fragment, do
 use Rattle.codec.specs.Codec.{readOf}
 use Rattle.message.specs.declared.Fields.{Fields}
 use Rattle.device.specs.Rules.{announceResult, resumes}
-use Rattle.upgrade.specs.Calls.{DeviceCall, given, asked, finished}
+use Rattle.upgrade.specs.Calls.{DeviceCall, given, asked, finished, digestGiven}
 use Rattle.upgrade.specs.Records.{DeviceEnd, deviceAnswer, deviceNext}
 
 pub record Held : Type 0 where
@@ -38,6 +38,7 @@ heldNext e (given supported pcp condition message reply) h =
     h
 heldNext e (asked reply) h = h
 heldNext e (finished code) h = h
+heldNext e (digestGiven digest) h = h
 
 -- along a list of calls
 unfoldable pub heldAfter : DeviceEnd → Held → List (DeviceCall Bool) → Held

@@ -7,4 +7,5 @@ pub mod Demand3
 pub mod Repeats
 pub mod Clean
 pub mod Counted
+pub mod Tested
 pub mod Witnesses

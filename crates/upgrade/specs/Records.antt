@@ -1,14 +1,20 @@
--- Both ends over records: each call is the definition that the code's call is proved equal to. Assumes nothing.
+-- Both ends over records: each call is the definition that the code's call is proved equal to, but for a digest of another length than 16,
+-- which the code's type rules out. Assumes nothing.
 use Prim.Native.Nat.{ℕ}
 use mathlib.Core.Bool.{Bool}
 use mathlib.Core.List.{List, []}
+use lib.Dec.{eqb}
+use lib.ListN.{length}
+use Rattle.basis.specs.Choice.{pick}
+use Rattle.basis.specs.Numbers.{shortRecord}
 use Rattle.codec.specs.Codec.{Sent}
 use Rattle.device_record.specs.declared.Device.{Device}
 use Rattle.device.specs.declared.Finished.{Finished}
+use Rattle.device.specs.declared.DigestAnswer.{DigestAnswer}
 use Rattle.device.specs.Rules as device
 use Rattle.gateway_record.specs.declared.Gateway.{Gateway}
 use Rattle.gateway.specs.Rules as gateway
-use Rattle.upgrade.specs.Calls.{aired, DeviceCall, given, asked, finished, GatewayCall, Done, DeviceSide, Ends, Exchange}
+use Rattle.upgrade.specs.Calls.{aired, DeviceCall, given, asked, finished, digestGiven, GatewayCall, Done, DeviceSide, Ends, Exchange}
 
 -- ---- the device, with image and map as the last call left them
 
@@ -22,6 +28,11 @@ abbrev pub deviceAnswer : DeviceEnd → (supported pcp : Bool) (condition : ℕ)
 deviceAnswer e supported pcp condition message reply =
     device.receiveOf (e .device) (e .image) (e .map) reply supported pcp condition message
 
+-- What a digest that is given leaves. It has 16 bytes by its type: a list of another length is no digest, and a call with one changes nothing
+-- and is answered shortRecord, 64, as the export answers it.
+abbrev pub deviceDigestAnswer : Device → (digest : List ℕ) → DigestAnswer
+deviceDigestAnswer d digest = pick (eqb (length digest) 16) (device.giveDigestOf d digest) (record { number = shortRecord; device = d })
+
 unfoldable pub deviceDoes : DeviceEnd → DeviceCall Bool → Done DeviceEnd
 deviceDoes e (given supported pcp condition message reply) =
     let a : device.After = deviceAnswer e supported pcp condition message reply in
@@ -32,6 +43,9 @@ deviceDoes e (asked reply) =
 deviceDoes e (finished code) =
     let f : Finished = device.installFinishedOf (e .device) code in
     record { state = record { device = f .device; image = e .image; map = e .map }; says = []; number = f .number }
+deviceDoes e (digestGiven digest) =
+    let g : DigestAnswer = deviceDigestAnswer (e .device) digest in
+    record { state = record { device = g .device; image = e .image; map = e .map }; says = []; number = g .number }
 
 abbrev pub deviceNext : DeviceEnd → DeviceCall Bool → DeviceEnd
 deviceNext e c = deviceDoes e c .state
