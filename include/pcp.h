@@ -5,7 +5,7 @@
    ends: it reads what arrives, keeps the upgrade's state, and writes what is to
    be sent.  It sends and receives nothing itself, knows no clock and allocates
    nothing: its caller, the host, owns radio, timers and flash.  What a host has
-   to know is in this file; captures of exchanges are in pcp_capture.h.
+   to know is in this file.
 
    The functions to call:
 
@@ -14,6 +14,7 @@
        pcp_device_receive           a message arrived: takes it, gives a reply
        pcp_device_next_message      gives what the device has to send
        pcp_device_install_finished  the installer has ended
+       pcp_device_give_digest       the package's MD5 is known
 
      at the gateway
        pcp_gateway_start            makes the record of an upgrade
@@ -27,11 +28,14 @@
 
    and, to look into a record: pcp_device_phase, pcp_device_running,
    pcp_device_target, pcp_device_size, pcp_device_total, pcp_device_code,
-   pcp_device_stored, pcp_device_image_length, pcp_device_map_length,
-   pcp_gateway_phase, pcp_gateway_ending.
+   pcp_device_stored, pcp_device_digest_set, pcp_device_digest,
+   pcp_device_image_length, pcp_device_map_length, pcp_gateway_phase,
+   pcp_gateway_ending.  Two other headers of the same archive have what is
+   beside an upgrade: captures of exchanges in pcp_capture.h, MD5 digests in
+   pcp_md5.h.
 
    Building.  The library is one archive for x86-64 Linux, libpcp.a.  It needs
-   memcpy and memset from the C library, at most 1,400 bytes of stack, and no
+   memcpy and memset from the C library, at most 1,800 bytes of stack, and no
    heap:
 
        cc -std=c99 -Iinclude gateway.c -Ltarget/staticlib -lpcp -o gateway
@@ -98,9 +102,9 @@
    - It lends each call the record, and the memory that goes with it, as the
      last call left them.  Between the calls nobody else writes them.
    - It sends the reply's first length bytes, and nothing if length is 0.
-   - It asks: at once when a call changed the record (a gateway in Offer: after
-     a wait), otherwise by a timer.  Nothing moves on by itself.  See "When
-     messages are lost".
+   - It asks: at once when a message or an installer's end changed the record (a
+     gateway in Offer: after a wait), otherwise by a timer.  Nothing moves on by
+     itself.  See "When messages are lost".
    - It looks at the phase only after a call that gave 0 or 23: bytes that are
      no record may read like any phase.
 
@@ -190,13 +194,15 @@
    1 to 12 are part of normal work: what arrived is of no use and is dropped, or
    an end that was asked has nothing to send (PCP_NO_USE).  Of these, 1 and 2
    repeat what the host states of the device, and 9 from
-   pcp_device_install_finished says that no installation is under way.  The
-   number 23 says that a fragment came twice and not the same: fragments of two
-   builds have met, or there is damage that no check saw, or the image is not as
-   the last call left it.  The device has given the download up, and has to be
-   asked, so that it tells its gateway.  The other higher numbers are mistakes
-   of the host, in what it lends or states: the same call again gets the same
-   number.
+   pcp_device_install_finished says that no installation is under way.  9 from
+   pcp_device_give_digest says that the device is not in Loading: it is too
+   early, or too late, and then the image was tested by no other digest than the
+   one that is set (see that function).  The number 23 says that a fragment came
+   twice and not the same: fragments of two builds have met, or there is damage
+   that no check saw, or the image is not as the last call left it.  The device
+   has given the download up, and has to be asked, so that it tells its gateway.
+   The other higher numbers are mistakes of the host, in what it lends or
+   states: the same call again gets the same number.
 
    A number is not a result.  Number 0 with a reply whose byte 8 is 01 is a
    message that was handled, and answered no.
@@ -235,7 +241,8 @@
      the device may be in Acked: it has all, and has said so to an earlier
      gateway.  Start with another fragment size (that fits image and map), or
      without a code, for that is no resume; the device downloads again and says
-     so again.  Without a code the image is not tested.
+     so again.  Without a code the image is not tested, unless the device
+     is given a digest.
 
    What can be relied on.  Let both ends use this library, let nothing reach
    either but what the other sent after the gateway came to Offer, undamaged,
@@ -253,23 +260,33 @@
    of 13, exchanged or xored with one value, and 13 bytes 00 or FF put in or
    left out.  The package's code is the same check, so what the one does not
    see, the other may not see either, and two builds may have the same code:
-   put a hash of your own into the package.  A package without a code (checked
-   0, or its check happens to be 0) is not tested by the device, and never
-   resumed.  Nothing here protects against forgery.  Nothing is promised of
-   time: the call that stores the last missing fragment runs over the whole
-   image.  Nor that an upgrade ends: losses are the hosts' matter.
+   give the device the package's MD5 (pcp_device_give_digest), or put a hash of
+   your own into the package.  A package without a code (checked 0, or its check
+   happens to be 0) is never resumed, and the device tests it only if it has a
+   digest.  Nothing here protects against forgery.  Nothing is promised of time:
+   the call that stores the last missing fragment runs over the whole image.
+   Nor that an upgrade ends: losses are the hosts' matter.
 
 
    Saving, and coming back after a restart
    ---------------------------------------
 
    A host that keeps an end over a restart saves it after each call that changed
-   the record (so does pcp_device_install_finished, if it gives 0), before it
-   sends the reply, asks, or begins the installer: a device that has answered
-   23, loses power and comes back as it was before would install twice.  A call
-   of which nothing was saved, sent or begun counts as not made; so after a
-   pulled battery the end is as it was before the call, or after it.  An older
-   copy than the last save is never lent.
+   the record (pcp_device_install_finished and pcp_device_give_digest count as
+   such, if they give 0), before it sends the reply, asks, or begins the
+   installer: a device that has answered 23, loses power and comes back as it
+   was before would install twice.  A call of which nothing was saved, sent or
+   begun counts as not made; so after a pulled battery the end is as it was
+   before the call, or after it.  An older copy than the last save is never
+   lent.
+
+   Software that comes with a newer version of this library may find what the
+   older one saved, and has to go on from there: otherwise an upgrade that
+   brings the library loses its report.  It looks for slots of its own form
+   first, only where none of these is right for one of the older form, and never
+   writes its first save over that one.  (The slots of the example below have
+   grown: new ones need another place.)  A device's record had 44 bytes before
+   it held a digest; with 17 bytes 00 behind them they are a record of today.
 
    At the device.  Lend record and map in RAM.  Storage holds the image, and two
    slots for record and map, each with a counter and a check over all of it (a
@@ -299,8 +316,8 @@
 
    Not covered: a record or map that is lent in storage itself, where a cut may
    leave half of what a call writes; storage that says too early that bytes are
-   there, or loses them later (the image is tested once, against the package's
-   code, when the last fragment is stored; and a fragment of it, against what
+   there, or loses them later (the image is tested once, against code and
+   digest, when the last fragment is stored; and a fragment of it, against what
    arrives, when it comes again); and the installer's own work.  What is proved
    is proved of runs without cuts.
 
@@ -311,7 +328,8 @@
                               installer was not begun, was cut off, or failed.
                               If it may begin again and the image is still whole
                               (pcp_device_image_length bytes; by a hash, or its
-                              check is pcp_device_code, if that is not 0), begin
+                              check is pcp_device_code, if that is not 0, and
+                              its MD5 pcp_device_digest, if one is set), begin
                               it, as if the phase had just been seen; but count,
                               for a package that never starts would be installed
                               for ever.  If not: PCP_INSTALL_FAILED, save, ask.
@@ -343,7 +361,8 @@
 
        struct slot { // record and map, as they are saved
            uint32_t counter;
-           uint8_t record[PCP_DEVICE_RECORD], map[65536 / 32 / 8];
+           uint8_t record[PCP_DEVICE_RECORD], unused[3]; // no padding
+           uint8_t map[65536 / 32 / 8];
            uint32_t check;
        };
 
@@ -611,7 +630,9 @@ enum {
                                      has no fragment missing.  Make a new one,
                                      and look for who wrote there */
     PCP_SHORT_RECORD = 64         /* record buffer below PCP_DEVICE_RECORD or
-                                     PCP_GATEWAY_RECORD */
+                                     PCP_GATEWAY_RECORD, MD5's state (see
+                                     pcp_md5.h) below PCP_MD5_STATE, or digest
+                                     not of PCP_DIGEST_LENGTH */
 };
 
 /* Fragment sizes. */
@@ -623,11 +644,12 @@ enum {
 
 /* Lengths of buffers. */
 enum {
-    PCP_DEVICE_RECORD = 44,  /* a device's record, exactly; more may be lent */
+    PCP_DEVICE_RECORD = 61,  /* a device's record, exactly; more may be lent */
     PCP_GATEWAY_RECORD = 30, /* a gateway's */
     PCP_DEVICE_REPLY = 26,   /* a device's reply buffer, at least */
     PCP_GATEWAY_REPLY = PCP_SIZE_MAX + 11, /* a gateway's */
-    PCP_VERSION_LENGTH = 16  /* a version text in records and messages */
+    PCP_VERSION_LENGTH = 16, /* a version text in records and messages */
+    PCP_DIGEST_LENGTH = 16   /* an MD5 digest */
 };
 
 /* The messages' codes, byte 3. */
@@ -647,10 +669,11 @@ enum {
     PCP_DEVICE_LOADED = 2,     /* has all; says so until it is answered */
     PCP_DEVICE_ACKED = 3,      /* waits for the order to install */
     PCP_DEVICE_FAILED = 4,     /* has all, but the package's check is not the
-                                  code announced, which is not 0; or a stored
-                                  fragment came again and was not the same
-                                  (number 23), and then some may be missing;
-                                  says so until answered */
+                                  code announced, which is not 0, or its MD5
+                                  not the digest given; or a stored fragment
+                                  came again and was not the same (number 23),
+                                  and then some may be missing; says so until
+                                  answered */
     PCP_DEVICE_INSTALLING = 5, /* the host installs, and reports the end */
     PCP_DEVICE_REPORTING = 6   /* reports to the gateway until answered */
 };
@@ -702,11 +725,13 @@ enum {
                                        05: a fragment size with a smaller size
                                        times total.  09: a larger size */
     PCP_ENDING_DOWNLOAD_FAILED = 3, /* it reported a failed download: 07, the
-                                       image's check is not the code, or a
-                                       fragment came twice and not the same,
-                                       which ends it before all is there.  Did
-                                       the package change?  For a new gateway
-                                       the device fetches all again */
+                                       image's check is not the code, or its
+                                       MD5 not the digest that the device was
+                                       given, or a fragment came twice and not
+                                       the same, which ends it before all is
+                                       there.  Did the package change?  For a
+                                       new gateway the device fetches all
+                                       again */
     PCP_ENDING_NOT_EXECUTED = 4,    /* an order to install was refused.  The
                                        device may install all the same, or have
                                        installed: it took another order, whose
@@ -728,6 +753,8 @@ enum {
        39  stored, how many fragments there are, 2 bytes
        41  length of the last fragment, 2 bytes; 0 until it is stored
        43  the code that the installer ended with
+       44  whether a digest is set: 0, or 1
+       45  the digest that the package must have, 16 bytes; 00 if none is set
 
    The record of a gateway:
 
@@ -739,10 +766,11 @@ enum {
        28  check code of the package, 2 bytes; 0: it has none
 
    What a record must keep to, or it is PCP_BAD_RECORD.  A device: one of the
-   phases, two version texts, one of the installer's codes; outside Idle also a
-   size as above, a total of at least 1, stored at most total (in Loading less),
-   last length at most size.  A gateway: one of the phases, an ending number, a
-   version text, a size as above, a length of 1 to 65,535 fragments. */
+   phases, two version texts, one of the installer's codes, 0 or 1 for whether a
+   digest is set; outside Idle also a size as above, a total of at least 1,
+   stored at most total (in Loading less), last length at most size.  A gateway:
+   one of the phases, an ending number, a version text, a size as above, a
+   length of 1 to 65,535 fragments. */
 
 /* What calls with a reply give.  Image bytes are written by pcp_device_receive
    alone: those of a fragment that it stored. */
@@ -779,6 +807,9 @@ uint32_t pcp_raw_device_next_message(const uint8_t *record,
                                      uint8_t *reply, size_t reply_length);
 uint8_t pcp_raw_device_install_finished(uint8_t *record, size_t record_length,
                                         uint8_t code);
+uint8_t pcp_raw_device_give_digest(uint8_t *record, size_t record_length,
+                                   const uint8_t *digest,
+                                   size_t digest_length);
 uint8_t pcp_raw_gateway_start(uint8_t *record, size_t record_length,
                               const uint8_t *version, size_t version_length,
                               uint16_t size, const uint8_t *package,
@@ -840,6 +871,20 @@ static inline uint16_t pcp_device_code(const uint8_t *record)
 static inline uint16_t pcp_device_stored(const uint8_t *record)
 {
     return pcp_word(record + 39);
+}
+
+/* Whether a digest is set: 1, or 0 for none.  In Loaded, Acked, Installing and
+   Reporting the image was tested by a digest that is set.  In Failed it need
+   not have been; in Idle it is left over from the last download. */
+static inline uint8_t pcp_device_digest_set(const uint8_t *record)
+{
+    return record[44];
+}
+
+/* The digest: PCP_DIGEST_LENGTH bytes, 00 each if none is set. */
+static inline const uint8_t *pcp_device_digest(const uint8_t *record)
+{
+    return record + 45;
 }
 
 /* How many of the image's first bytes are the package, once all fragments are
@@ -1034,12 +1079,39 @@ static inline uint8_t pcp_device_install_finished(uint8_t *record,
         pcp_byte_or_bad(code));
 }
 
+/* Gives the device, in Loading, the MD5 of the package that it is downloading:
+   PCP_DIGEST_LENGTH bytes, not their 32 hex digits, in the order in which
+   md5sum prints them.  When all fragments are stored, the image must have this
+   digest, beside the check code announced, or the phase is Failed.  The call
+   that stores the last one then takes much longer: a nanosecond or two for each
+   byte of the image on a large processor, far more on a small one.
+     One that was given before is replaced.  An announcement that begins a
+   download clears it, and a resume keeps it: so give it after each 20 that was
+   handled, if the phase is then Loading and another or none is set.  (A package
+   without a code is never resumed: there every 20 that is accepted clears it.)
+   It names no package: give it when the download is the one that it belongs to
+   (pcp_device_target, and _size, _total and _code where the host knows them).
+     From Loaded on it is too late: 9.  Unless it is the one that is set,
+   compare it with the image's MD5 (pcp_md5.h) before you install; if they
+   differ, report PCP_INSTALL_FAILED in Installing, or make a new record.
+     MD5 helps against accidents, and not against someone who means harm.
+   Numbers: 64 (also for a digest of another length), 29, 9. */
+static inline uint8_t pcp_device_give_digest(uint8_t *record,
+                                             size_t record_length,
+                                             const uint8_t *digest,
+                                             size_t digest_length)
+{
+    return pcp_raw_device_give_digest(
+        pcp_not_null_buffer(record, record_length), record_length,
+        pcp_not_null(digest, digest_length), digest_length);
+}
+
 /* Makes the record of a gateway that is to bring one device to this version
    with this package, in fragments of size bytes (PCP_SIZE_MIN to PCP_SIZE_MAX).
    The version text is as for pcp_device_new.  With checked, the package's check
    is announced as its code: the device then tests the whole image, and can
-   resume.  Otherwise (or if that check happens to be 0) the code is 0: no test,
-   no resume.
+   resume.  Otherwise (or if that check happens to be 0) the code is 0: no
+   test, unless the device is given a digest, and no resume.
    Numbers: 64, 17, 18, 19. */
 static inline uint8_t pcp_gateway_start(uint8_t *record, size_t record_length,
                                         const void *version,

@@ -1,9 +1,11 @@
-/* upgrade [--capture FILE] PACKAGE [SEED [SIZE]] - upgrades a simulated device
-   from a package file, over a simulated link that loses, repeats, delays and
-   reorders messages, and is down at times.  The seed, a number, fixes what goes
-   wrong.  The size is that of a fragment: as in public platforms' packages, if
-   none is given.  With a file, the exchange is recorded there as a capture: what
-   arrives at the device, and what it sends.
+/* upgrade [--capture FILE] [--digest HEX] PACKAGE [SEED [SIZE]] - upgrades a
+   simulated device from a package file, over a simulated link that loses,
+   repeats, delays and reorders messages, and is down at times.  The seed, a
+   number, fixes what goes wrong.  The size is that of a fragment: as in public
+   platforms' packages, if none is given.  With a file, the exchange is recorded
+   there as a capture: what arrives at the device, and what it sends.  With a
+   digest, the package's MD5 in 32 hex digits as md5sum prints it, the device
+   tests the image by that too.
 
    This is an example of both hosts of pcp.h.  Device and gateway know of each
    other only what the link brings.  What a host has to do, and can be copied:
@@ -12,6 +14,7 @@
      at once if the record has changed
    - device_ask, gateway_ask: send what the end has to send; by a timer, for a
      message may have been lost
+   - device_give_digest: gives the package's MD5 when its download has begun
    - device_install, device_tick: the installer, begun once and only with what
      the image holds, and its end reported
    - is_wanted, gateway_tick, gateway_next: which messages the gateway leaves
@@ -52,8 +55,9 @@ enum {
 /* How often things go wrong: once in so many times. */
 enum { LOST = 6, REPEATED = 10, DOWN = 1500, BUSY = 8 };
 
-/* Gateways in a row that were asked for nothing; then the program gives up. */
-enum { MOST_FRUITLESS = 10 };
+/* Gateways in a row that were asked for nothing, and downloads that failed; then
+   the program gives up. */
+enum { MOST_FRUITLESS = 10, MOST_FAILED = 2 };
 
 /* Random numbers that a seed fixes (SplitMix64). */
 
@@ -186,20 +190,23 @@ struct device {
     uint8_t map[MAP_LENGTH];
     uint64_t random;
     FILE *capture;              /* of the exchange; NULL if it is not recorded */
+    const uint8_t *digest;      /* the package's; NULL if it is not known */
     unsigned long ask_at;       /* when to ask for the next message */
     bool installing;            /* the installer is at work */
     unsigned long installed_at; /* and will be done */
-    unsigned long resumes, stored, repeated;
+    unsigned long resumes, stored, repeated, digests, other_digests;
 };
 
 /* The map is not cleared: an announcement does it. */
-static void device_start(struct device *device, uint64_t seed, FILE *capture)
+static void device_start(struct device *device, uint64_t seed, FILE *capture,
+                         const uint8_t *digest)
 {
     memset(device, 0, sizeof *device);
     memset(device->image, ERASED, sizeof device->image);
     memset(device->map, ERASED, sizeof device->map);
     device->random = seed;
     device->capture = capture;
+    device->digest = digest;
     note_number("pcp_device_new",
                 pcp_device_new(device->record, sizeof device->record, RUNNING,
                                strlen(RUNNING)));
@@ -231,6 +238,44 @@ static void device_count(struct device *device, const struct message *message,
         device->repeated++;
     if (code_of(message) == PCP_ANNOUNCE && accepted && !answer.changed)
         device->resumes++;
+}
+
+static bool is_target(const uint8_t *version)
+{
+    uint8_t target[PCP_VERSION_LENGTH] = TARGET;
+
+    return memcmp(version, target, sizeof target) == 0;
+}
+
+/* The package's MD5, which a platform states with the package.  It is given when
+   an announcement has begun a download, and only if that is of the version which
+   it belongs to: the call itself names none.  A resume keeps it, so it is not
+   given again.  A device that saves does so after this, and before its reply to
+   the announcement is sent. */
+static void device_give_digest(struct device *device)
+{
+    uint8_t number;
+
+    if (device->digest == NULL || !is_target(pcp_device_target(device->record)))
+        return;
+    number = pcp_device_give_digest(device->record, sizeof device->record,
+                                    device->digest, PCP_DIGEST_LENGTH);
+    note_number("pcp_device_give_digest", number);
+    device->digests += number == PCP_HANDLED;
+}
+
+/* For the account: all is stored, and did not pass. */
+static void device_failed(struct device *device, unsigned long now)
+{
+    uint16_t code = pcp_device_code(device->record);
+    uint16_t check = pcp_check_of_bytes(
+        device->image, pcp_device_image_length(device->record));
+    bool by_digest = code == 0 || code == check;
+
+    device->other_digests += by_digest;
+    printf("tick %lu: all is stored, and the image's %s\n", now,
+           by_digest ? "MD5 is not the one given"
+                     : "check is not the one announced");
 }
 
 /* Begun once, whatever arrives meanwhile.  A real installer copies the first
@@ -269,6 +314,11 @@ static void device_receive(struct device *device, struct link *link,
         device->ask_at = now;
     if (answer.number != PCP_HANDLED)
         return;
+    if (code_of(message) == PCP_ANNOUNCE && answer.changed)
+        device_give_digest(device);
+    if (answer.image_length > 0 &&
+        pcp_device_phase(device->record) == PCP_DEVICE_FAILED)
+        device_failed(device, now);
     device_send(device, link, now, reply, answer.length);
     if (pcp_device_phase(device->record) == PCP_DEVICE_INSTALLING)
         device_install(device, now);
@@ -322,7 +372,7 @@ struct gateway {
     bool over;
     bool executing;         /* the device has answered the order to install */
     unsigned long requests; /* that this gateway answered */
-    unsigned long fruitless, started;
+    unsigned long fruitless, failed, started;
 };
 
 /* Starts the first gateway, or one that follows another.  With the package's
@@ -475,11 +525,16 @@ static uint16_t other_size(uint16_t size)
    was asked for nothing, may have met a device that holds the whole package and
    has told it to an earlier gateway.  Another fragment size makes an offer that
    is no resume: the device fetches the package again, and tests it again, which
-   it would not if the offer had no code.  False: no use in going on. */
+   it would not if the offer had no code.  A download that failed is fetched
+   again too, but not for ever: what failed twice was not damaged on the way.
+   False: no use in going on. */
 static bool gateway_next(struct gateway *gateway, unsigned long now)
 {
     bool in_serve = pcp_gateway_phase(gateway->record) == PCP_GATEWAY_SERVE;
 
+    if (pcp_gateway_ending(gateway->record) == PCP_ENDING_DOWNLOAD_FAILED &&
+        ++gateway->failed == MOST_FAILED)
+        return false;
     if (gateway->requests > 0)
         gateway->fruitless = 0;
     else if (++gateway->fruitless == MOST_FRUITLESS)
@@ -542,14 +597,6 @@ static bool upgrade(struct device *device, struct gateway *gateway,
     return false;
 }
 
-static bool runs_target(const struct device *device)
-{
-    uint8_t target[PCP_VERSION_LENGTH] = TARGET;
-
-    return memcmp(pcp_device_running(device->record), target, sizeof target) ==
-           0;
-}
-
 static bool image_is_package(const struct device *device,
                              const struct gateway *gateway)
 {
@@ -567,9 +614,12 @@ static int report(const struct device *device, const struct gateway *gateway,
     printf("fragments: %lu stored, %lu came again\n", device->stored,
            device->repeated);
     printf("resumes: %lu, gateways: %lu\n", device->resumes, gateway->started);
+    if (device->digest != NULL)
+        printf("digests: %lu given, %lu failed\n", device->digests,
+               device->other_digests);
     if (!succeeded)
         puts("gave up: the device was not upgraded");
-    else if (!runs_target(device))
+    else if (!is_target(pcp_device_running(device->record)))
         puts("the device does not run " TARGET);
     else if (!image_is_package(device, gateway))
         puts("upgraded to " TARGET ", but the image is not the package");
@@ -581,15 +631,23 @@ static int report(const struct device *device, const struct gateway *gateway,
     return EXIT_FAILURE;
 }
 
-static int run(const uint8_t *package, size_t package_length, uint64_t seed,
-               uint16_t size, FILE *capture)
+/* What the program is called with. */
+struct call {
+    const char *capture;   /* NULL if there is none */
+    const uint8_t *digest; /* likewise */
+    const char *package;
+    uint64_t seed, size;
+};
+
+static int run(const struct call *call, const uint8_t *package,
+               size_t package_length, FILE *capture)
 {
     static struct device device; /* too large for a stack */
     struct gateway gateway = {.package = package,
                               .package_length = package_length,
-                              .size = size,
-                              .first_size = size};
-    struct link link = {.random = seed};
+                              .size = (uint16_t)call->size,
+                              .first_size = (uint16_t)call->size};
+    struct link link = {.random = call->seed};
     uint8_t number = gateway_start(&gateway, 0);
 
     if (number != PCP_HANDLED) {
@@ -601,7 +659,7 @@ static int run(const uint8_t *package, size_t package_length, uint64_t seed,
                                          : "");
         return EXIT_FAILURE;
     }
-    device_start(&device, ~seed, capture);
+    device_start(&device, ~call->seed, capture, call->digest);
     return report(&device, &gateway, &link,
                   upgrade(&device, &gateway, &link));
 }
@@ -634,10 +692,56 @@ static bool read_number(const char *text, uint64_t most, uint64_t *number)
     return errno == 0 && *number <= most;
 }
 
-/* Runs, and sees that the capture was written, if there is one. */
-static int run_captured(const uint8_t *package, size_t package_length,
-                        uint64_t seed, uint16_t size, const char *path)
+/* Two hex digits for each byte, as md5sum prints them, or capital ones. */
+static bool read_digest(const char *text, uint8_t *digest)
 {
+    if (strlen(text) != 2 * PCP_DIGEST_LENGTH ||
+        strspn(text, "0123456789abcdefABCDEF") != strlen(text))
+        return false;
+    for (size_t i = 0; i < PCP_DIGEST_LENGTH; i++) {
+        char digits[3] = {text[2 * i], text[2 * i + 1], 0};
+
+        digest[i] = (uint8_t)strtoul(digits, NULL, 16);
+    }
+    return true;
+}
+
+/* Takes the options from the front; false if one is wrong. */
+static bool read_options(int *count, char ***arguments, struct call *call)
+{
+    static uint8_t digest[PCP_DIGEST_LENGTH];
+
+    while (*count > 1 && strncmp((*arguments)[1], "--", 2) == 0) {
+        const char *option = (*arguments)[1], *value = (*arguments)[2];
+
+        if (value == NULL)
+            return false;
+        if (strcmp(option, "--capture") == 0)
+            call->capture = value;
+        else if (strcmp(option, "--digest") == 0 && read_digest(value, digest))
+            call->digest = digest;
+        else
+            return false;
+        *arguments += 2;
+        *count -= 2;
+    }
+    return true;
+}
+
+static bool read_call(int count, char **arguments, struct call *call)
+{
+    if (!read_options(&count, &arguments, call) || count < 2 || count > 4)
+        return false;
+    call->package = arguments[1];
+    return (count < 3 || read_number(arguments[2], UINT64_MAX, &call->seed)) &&
+           (count < 4 || read_number(arguments[3], UINT16_MAX, &call->size));
+}
+
+/* Runs, and sees that the capture was written, if there is one. */
+static int run_captured(const struct call *call, const uint8_t *package,
+                        size_t package_length)
+{
+    const char *path = call->capture;
     FILE *capture = path == NULL ? NULL : fopen(path, "wb");
     int status;
 
@@ -646,7 +750,7 @@ static int run_captured(const uint8_t *package, size_t package_length,
                 strerror(errno));
         return EXIT_FAILURE;
     }
-    status = run(package, package_length, seed, size, capture);
+    status = run(call, package, package_length, capture);
     if (capture != NULL && (ferror(capture) | fclose(capture)) != 0) {
         fprintf(stderr, "upgrade: cannot write %s\n", path);
         return EXIT_FAILURE;
@@ -658,22 +762,15 @@ int main(int count, char **arguments)
 {
     static uint8_t package[MOST_PACKAGE + 1];
     size_t length = 0;
-    uint64_t seed = 1, size = PCP_SIZE_PUBLIC;
-    const char *capture = NULL;
+    struct call call = {.seed = 1, .size = PCP_SIZE_PUBLIC};
 
-    if (count > 1 && strcmp(arguments[1], "--capture") == 0) {
-        capture = arguments[2]; /* NULL if there is none, a wrong use */
-        arguments += 2;
-        count -= 2;
-    }
-    if (count < 2 || count > 4 ||
-        (count > 2 && !read_number(arguments[2], UINT64_MAX, &seed)) ||
-        (count > 3 && !read_number(arguments[3], UINT16_MAX, &size))) {
-        fputs("usage: upgrade [--capture FILE] PACKAGE [SEED [SIZE]]\n",
+    if (!read_call(count, arguments, &call)) {
+        fputs("usage: upgrade [--capture FILE] [--digest HEX] PACKAGE"
+              " [SEED [SIZE]]\n",
               stderr);
         return 2;
     }
-    if (!read_package(arguments[1], package, sizeof package, &length))
+    if (!read_package(call.package, package, sizeof package, &length))
         return EXIT_FAILURE;
-    return run_captured(package, length, seed, (uint16_t)size, capture);
+    return run_captured(&call, package, length);
 }

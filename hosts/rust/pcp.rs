@@ -7,10 +7,12 @@
 //! are safe.
 //!
 //! - [`Device`] is the device's end: [`receive`](Device::receive) when a message arrived,
-//!   [`next_message`](Device::next_message) to ask what it has to send, [`install_finished`](Device::install_finished)
+//!   [`next_message`](Device::next_message) to ask what it has to send, [`install_finished`](Device::install_finished),
+//!   [`give_digest`](Device::give_digest) where the package's MD5 is known
 //! - [`Gateway`] is the gateway's: [`start`](Gateway::start), [`receive`](Gateway::receive),
 //!   [`next_message`](Gateway::next_message)
 //! - [`capture`] writes, reads and mends captures of exchanges
+//! - [`md5`] gives MD5 digests, whole or in pieces
 //! - a call gives an answer, or a [`Refusal`], and then it has changed nothing, but for
 //!   [`RepeatDiffers`](Refusal::RepeatDiffers)
 //!
@@ -43,8 +45,8 @@
 //!    would double all that follow.
 //! 4. Give a device only what its gateway sent, a gateway only what its device sent, and let one gateway at a time work
 //!    on a device. Messages carry no address and no direction: an end that hears itself, or a stranger, moves on.
-//! 5. If an end is to outlive a restart, save it when an answer says `changed`, **before** the reply is sent, the end
-//!    asked or the installer begun (see "Restarts"). A device that has answered 23, and comes back as it was before,
+//! 5. If an end is to outlive a restart, save it when an answer says `changed`, and when the installer's end or a digest
+//!    was taken, **before** the reply is sent, the end asked or the installer begun (see "Restarts"). A device that has answered 23, and comes back as it was before,
 //!    would install twice. Bring back the last save, never an older one.
 //!
 //! Device:
@@ -87,16 +89,22 @@
 //! host's own over all of it (a CRC-32, say). When an answer says `changed`: bring the `written` bytes of the image to
 //! storage; when they are there, write the counter plus 1, the record, the map's first
 //! [`map_length`](Device::map_length) bytes and the check to the slot that does not hold the last save; when that is
-//! there, send, ask, install. So after [`install_finished`](Device::install_finished) too. In Loading the slot may be
-//! left out after a fragment, not after an announcement: what came since the last save is fetched again.
+//! there, send, ask, install. So after [`install_finished`](Device::install_finished) and
+//! [`give_digest`](Device::give_digest) too. In Loading the slot may be left out after a fragment, not after an
+//! announcement: what came since the last save is fetched again.
+//!
+//! An earlier version of this library had records of 44 bytes: with 17 bytes `00` behind them they are records of
+//! today. Look for slots of today's form first, only where none is right for one of the earlier form, and do not write the
+//! first save over that one.
 //!
 //! After a restart take the slot whose check is right, of two the one with the higher counter
 //! ([`from_record`](Device::from_record)); without one, make a [`new`](Device::new) device. Then, by the phase:
 //!
 //! - [`Installing`](DevicePhase::Installing), and the [`target`](Device::target) runs: report
 //!   [`Installed`](InstallCode::Installed). If another version runs, the installer was not begun, was cut off or
-//!   failed: begin it again, if the image is still whole (by a hash, or [`check_code`](Device::check_code)) and it has
-//!   not been tried too often; else report [`Failed`](InstallCode::Failed).
+//!   failed: begin it again, if the image is still whole (by a hash, or [`check_code`](Device::check_code) and
+//!   [`expected_digest`](Device::expected_digest)) and it has not been tried too often; else report
+//!   [`Failed`](InstallCode::Failed).
 //! - any other, and the [`running`](Device::running) version runs: go on, in Loading, Loaded and Acked with image and
 //!   map. If another version runs: a new device.
 //!
@@ -114,8 +122,9 @@
 //! the device's installer had ended with [`Installed`](InstallCode::Installed) after that. Both are proved of the
 //! archive, for true pointers and lengths, which this crate sees to; of what it had stored before, see duty 11.
 //!
-//! Not covered: damage that a check of 16 bits does not see (the package's code is the same check: put a hash of your
-//! own into the package); forgery (sign packages); power cuts inside a call; that every upgrade comes to an end.
+//! Not covered: damage that a check of 16 bits does not see (the package's code is the same check: give the device the
+//! package's MD5, or put a hash of your own into the package); forgery (sign packages); power cuts inside a call; that
+//! every upgrade comes to an end.
 //!
 //! # A device
 //!
@@ -285,6 +294,7 @@ use core::fmt;
 use core::ops::Range;
 
 pub mod capture;
+pub mod md5;
 #[allow(missing_docs)] // the calls' names are those of the methods here
 pub mod raw;
 
@@ -295,13 +305,15 @@ pub const SIZE_MAX: u16 = 1024;
 /// The most in public platforms' packages: take no more where a device may also meet one of those.
 pub const SIZE_PUBLIC: u16 = 500;
 /// A device's record, in bytes.
-pub const DEVICE_RECORD: usize = 44;
+pub const DEVICE_RECORD: usize = 61;
 /// A gateway's record, in bytes.
 pub const GATEWAY_RECORD: usize = 30;
 /// The shortest reply buffer of a device.
 pub const DEVICE_REPLY: usize = 26;
 /// The shortest reply buffer of a gateway. No message is longer.
 pub const GATEWAY_REPLY: usize = SIZE_MAX as usize + 11;
+/// An MD5 digest, in bytes.
+pub const DIGEST_LENGTH: usize = 16;
 /// A version in records and messages, in bytes.
 pub const VERSION_LENGTH: usize = 16;
 
@@ -380,7 +392,7 @@ bytes_named! {
         Loading = 1: "fetches fragments: asked, it sends 21 for the lowest that is missing",
         Loaded = 2: "has all: asked, it sends 22 with 00, until that is answered",
         Acked = 3: "has all, and waits for the order to install",
-        Failed = 4: "has all, but not with the check that was announced: asked, it sends 22 with 07, until that is answered",
+        Failed = 4: "has all, but not with the check announced or the digest given, or a fragment came twice and not the same: asked, it sends 22 with 07, until that is answered",
         Installing = 5: "its host installs, and reports the end",
         Reporting = 6: "the installer has ended: asked, it sends 24, until that is answered",
     }
@@ -432,7 +444,8 @@ bytes_named! {
     ///   internal error: a new gateway later. `03`, the version runs already: a new one ends with AlreadyRunning. `05`,
     ///   image too short: another size, so that size times number of fragments is smaller, or a smaller package. `09`,
     ///   map too short: a larger size.
-    /// - DownloadFailed: sees that the package did not change, and starts a new gateway; the device fetches all again.
+    /// - DownloadFailed: sees that the package did not change, and that the device's host gave no other package's digest, and
+    ///   starts a new gateway; the device fetches all again.
     /// - NotExecuted: an order to install was refused: the device was busy or low in power; or it had taken another
     ///   order, whose answer was lost or comes later, and installs or has installed. A new gateway later, which asks for
     ///   the version that runs.
@@ -494,7 +507,7 @@ bytes_named! {
         DoesNotFit = 22: "no room for a record, or its message is longer than 65,535 bytes",
         RepeatDiffers = 23: "fragment already stored with other bytes: the download has failed",
         BadRecord = 29: "not a record, or not this map's",
-        ShortRecord = 64: "record buffer too short",
+        ShortRecord = 64: "buffer too short for a record or for MD5's state, or a digest's of another length",
     }
 }
 
@@ -615,7 +628,8 @@ impl Device {
         Ok(Device { record })
     }
 
-    /// A device from a record that was put away, as the last call left it.
+    /// A device from a record that was put away, as the last call left it. One of an earlier version of this library has 44
+    /// bytes: 17 bytes `00` go behind them.
     ///
     /// Refusals: BadRecord for bytes that break a record's rules. That they keep them does not show that they are the
     /// last call's: a host must be able to tell a torn save.
@@ -746,6 +760,27 @@ impl Device {
         asked(reply_in(reply, answer))
     }
 
+    /// The digest that the completed package must have, if one was given for the last download. In Loaded, Acked, Installing
+    /// and Reporting the image was tested by it; in Failed it need not have been, and in Idle it is left over.
+    pub fn expected_digest(&self) -> Option<[u8; DIGEST_LENGTH]> {
+        let mut digest = [0; DIGEST_LENGTH];
+        digest.copy_from_slice(&self.record[45..]);
+        Some(digest).filter(|_| self.record[44] == 1)
+    }
+
+    /// Gives the MD5 of the package that is being downloaded, in Loading: when all fragments are there, the image must have
+    /// this digest beside the check code announced, or the download has failed. One that was given before is replaced; an
+    /// announcement that begins a download clears it, and a resume keeps it: so give it after each announcement that was
+    /// handled, if the phase is then Loading and another or none is set; then save (duty 5). It names no package: give it
+    /// when the download is the one that it belongs to. The call that stores the last fragment then takes much longer. MD5
+    /// helps against accidents, and not against someone who means harm.
+    ///
+    /// Refusals: NoUse outside Loading. From Loaded on it is too late: unless it is the one that is set, compare it with the
+    /// image's digest ([`md5::digest`]) before the installation.
+    pub fn give_digest(&mut self, digest: &[u8; DIGEST_LENGTH]) -> Result<(), Refusal> {
+        done(raw::device_give_digest(&mut self.record, digest))
+    }
+
     /// The installer has ended, in Installing. The device goes to Reporting; if it installed, the target is now the
     /// version that runs.
     ///
@@ -774,8 +809,8 @@ impl Gateway {
     /// A gateway that is to bring a device to this version, with this package in fragments of `size` bytes,
     /// [`SIZE_MIN`] to [`SIZE_MAX`].
     /// The version text is as for [`Device::new`]. With `checked` the package's check is announced as its code: the
-    /// device then tests the whole image, and can resume. Otherwise, or if that check happens to be 0: no test, no
-    /// resume.
+    /// device then tests the whole image, and can resume. Otherwise, or if that check happens to be 0: no test, unless the
+    /// device is given a digest, and no resume.
     ///
     /// Refusals: BadVersionText, BadSize, BadPackage.
     pub fn start(version: &[u8], size: u16, package: &[u8], checked: bool) -> Result<Gateway, Refusal> {

@@ -1,8 +1,9 @@
 //! The archive's calls over slices of any length: also a record buffer that is too short, or that holds any bytes.
 //! Facts are `[supported, pcp]`, 0 for no and anything else for yes. A host calls [`Device`](crate::Device),
-//! [`Gateway`](crate::Gateway) and [`capture`](crate::capture) instead; these are for tests.
+//! [`Gateway`](crate::Gateway), [`capture`](crate::capture) and [`md5`](crate::md5) instead; these are for tests.
 
-/// The archive's symbols. Their declarations are those of `include/pcp.h` and `include/pcp_capture.h`.
+/// The archive's symbols. Their declarations are those of `include/pcp.h`, `include/pcp_capture.h` and
+/// `include/pcp_md5.h`.
 mod archive {
     extern "C" {
         pub fn pcp_check(bytes: *const u8, length: usize) -> u16;
@@ -40,6 +41,12 @@ mod archive {
             reply_length: usize,
         ) -> u32;
         pub fn pcp_raw_device_install_finished(record: *mut u8, record_length: usize, code: u8) -> u8;
+        pub fn pcp_raw_device_give_digest(
+            record: *mut u8,
+            record_length: usize,
+            digest: *const u8,
+            digest_length: usize,
+        ) -> u8;
         pub fn pcp_raw_gateway_start(
             record: *mut u8,
             record_length: usize,
@@ -80,6 +87,20 @@ mod archive {
             buffer: *mut u8,
             buffer_length: usize,
             at: usize,
+        ) -> u8;
+        pub fn pcp_raw_md5(bytes: *const u8, length: usize, digest: *mut u8, digest_length: usize) -> u8;
+        pub fn pcp_raw_md5_new(state: *mut u8, state_length: usize) -> u8;
+        pub fn pcp_raw_md5_feed(
+            state: *mut u8,
+            state_length: usize,
+            piece: *const u8,
+            piece_length: usize,
+        ) -> u8;
+        pub fn pcp_raw_md5_finish(
+            state: *const u8,
+            state_length: usize,
+            digest: *mut u8,
+            digest_length: usize,
         ) -> u8;
     }
 }
@@ -180,6 +201,14 @@ pub fn device_install_finished(record: &mut [u8], code: u8) -> u8 {
 }
 
 #[inline]
+pub fn device_give_digest(record: &mut [u8], digest: &[u8]) -> u8 {
+    // SAFETY: slices, see above.
+    unsafe {
+        archive::pcp_raw_device_give_digest(record.as_mut_ptr(), record.len(), digest.as_ptr(), digest.len())
+    }
+}
+
+#[inline]
 pub fn gateway_start(record: &mut [u8], version: &[u8], size: u16, package: &[u8], checked: u8) -> u8 {
     // SAFETY: slices, see above.
     unsafe {
@@ -267,4 +296,28 @@ pub fn capture_write(toward: u8, message: &[u8], buffer: &mut [u8], at: usize) -
             at,
         )
     }
+}
+
+#[inline]
+pub fn md5(bytes: &[u8], digest: &mut [u8]) -> u8 {
+    // SAFETY: slices, see above.
+    unsafe { archive::pcp_raw_md5(bytes.as_ptr(), bytes.len(), digest.as_mut_ptr(), digest.len()) }
+}
+
+#[inline]
+pub fn md5_new(state: &mut [u8]) -> u8 {
+    // SAFETY: slices, see above.
+    unsafe { archive::pcp_raw_md5_new(state.as_mut_ptr(), state.len()) }
+}
+
+#[inline]
+pub fn md5_feed(state: &mut [u8], piece: &[u8]) -> u8 {
+    // SAFETY: slices, see above.
+    unsafe { archive::pcp_raw_md5_feed(state.as_mut_ptr(), state.len(), piece.as_ptr(), piece.len()) }
+}
+
+#[inline]
+pub fn md5_finish(state: &[u8], digest: &mut [u8]) -> u8 {
+    // SAFETY: slices, see above.
+    unsafe { archive::pcp_raw_md5_finish(state.as_ptr(), state.len(), digest.as_mut_ptr(), digest.len()) }
 }

@@ -1,13 +1,15 @@
-//! `upgrade [--capture FILE] PACKAGE [SEED [SIZE]]` upgrades a simulated device from a package file, over a simulated link
-//! that loses, repeats, delays and reorders messages, and is down at times. The seed, a number, fixes what goes wrong. The
-//! size is that of a fragment: as in public platforms' packages, if none is given. With a file, the exchange is recorded
-//! there as a capture: what arrives at the device, and what it sends.
+//! `upgrade [--capture FILE] [--digest HEX] PACKAGE [SEED [SIZE]]` upgrades a simulated device from a package file, over a
+//! simulated link that loses, repeats, delays and reorders messages, and is down at times. The seed, a number, fixes what
+//! goes wrong. The size is that of a fragment: as in public platforms' packages, if none is given. With a file, the
+//! exchange is recorded there as a capture: what arrives at the device, and what it sends. With a digest, the package's MD5
+//! in 32 hex digits as md5sum prints it, the device tests the image by that too.
 //!
 //! This is an example of both hosts of the crate `pcp`. Device and gateway know of each other only what the link
 //! brings. What a host has to do, and can be copied:
 //!
 //! - `receive`: lend the buffers, send the reply, and ask at once if the record has changed
 //! - `ask`: send what the end has to send; by a timer, for a message may have been lost
+//! - `DeviceHost::give_digest`: gives the package's MD5 when its download has begun
 //! - `DeviceHost::install`, `tick`: the installer, begun once and only with what the image holds, and its end reported
 //! - `GatewayHost::wants`, `tick`, `next`: which messages the gateway leaves unanswered, and when a new gateway takes
 //!   over
@@ -16,7 +18,7 @@
 
 use pcp::capture::{self, Direction};
 use pcp::{Code, Condition, Device, DevicePhase, Ending, Facts, Gateway, GatewayPhase, InstallCode, Refusal};
-use pcp::{DeviceAnswer, DEVICE_REPLY, GATEWAY_REPLY, SIZE_MAX, SIZE_MIN, SIZE_PUBLIC};
+use pcp::{DeviceAnswer, DEVICE_REPLY, DIGEST_LENGTH, GATEWAY_REPLY, SIZE_MAX, SIZE_MIN, SIZE_PUBLIC};
 use std::fmt::Arguments;
 use std::fs::File;
 use std::io::{self, Read, Write};
@@ -64,8 +66,9 @@ const BUSY: u64 = 8;
 
 /// Messages that the link can hold.
 const IN_FLIGHT: usize = 64;
-/// Gateways in a row that were asked for nothing; then the program gives up.
+/// Gateways in a row that were asked for nothing, and downloads that failed; then the program gives up.
 const MOST_FRUITLESS: u32 = 10;
+const MOST_FAILED: u32 = 2;
 
 /// Why the program does not go on.
 enum Failure {
@@ -80,7 +83,9 @@ enum Failure {
 impl fmt::Display for Failure {
     fn fmt(&self, f: &mut fmt::Formatter) -> fmt::Result {
         match self {
-            Failure::Usage => write!(f, "usage: upgrade [--capture FILE] PACKAGE [SEED [SIZE]]"),
+            Failure::Usage => {
+                write!(f, "usage: upgrade [--capture FILE] [--digest HEX] PACKAGE [SEED [SIZE]]")
+            }
             Failure::Read(path, error) => write!(f, "upgrade: cannot read {}: {}", path, error),
             Failure::Write(path, error) => write!(f, "upgrade: cannot write {}: {}", path, error),
             Failure::Package(refusal) => {
@@ -212,12 +217,16 @@ impl Recorder {
     }
 }
 
+type Digest = [u8; DIGEST_LENGTH];
+
 struct DeviceHost {
     device: Device,
     image: Vec<u8>,
     map: Vec<u8>,
     random: Random,
     recorder: Option<Recorder>,
+    /// The package's, if it is known.
+    digest: Option<Digest>,
     /// When to ask for the next message.
     ask_at: Ticks,
     /// When the installer will be done, if it is at work.
@@ -225,11 +234,13 @@ struct DeviceHost {
     resumes: u64,
     stored: u64,
     repeated: u64,
+    digests: u64,
+    other_digests: u64,
 }
 
 impl DeviceHost {
     /// The map is not cleared: an announcement does it.
-    fn new(seed: u64, recorder: Option<Recorder>) -> Result<DeviceHost, Failure> {
+    fn new(seed: u64, recorder: Option<Recorder>, digest: Option<Digest>) -> Result<DeviceHost, Failure> {
         let device =
             Device::new(RUNNING.as_bytes()).map_err(|refusal| Failure::Call("Device::new", refusal))?;
         Ok(DeviceHost {
@@ -238,11 +249,14 @@ impl DeviceHost {
             map: vec![ERASED; MAP_LENGTH],
             random: Random(seed),
             recorder,
+            digest,
             ask_at: 0,
             installed_at: None,
             resumes: 0,
             stored: 0,
             repeated: 0,
+            digests: 0,
+            other_digests: 0,
         })
     }
 
@@ -274,6 +288,12 @@ impl DeviceHost {
             None => return Ok(()),
         };
         self.count(message, &answer);
+        if Code::of(message) == Some(Code::Announce) && answer.changed {
+            self.give_digest()?;
+        }
+        if answer.written.is_some() && self.device.phase() == DevicePhase::Failed {
+            self.failed(now);
+        }
         if let Some(reply) = answer.reply {
             self.send(link, now, reply)?;
         }
@@ -305,6 +325,29 @@ impl DeviceHost {
         let resumed = Code::of(message) == Some(Code::Announce) && accepted && !answer.changed;
         self.stored += u64::from(answer.written.is_some());
         self.resumes += u64::from(resumed);
+    }
+
+    /// The package's MD5, which a platform states with the package. It is given when an announcement has begun a
+    /// download, and only if that is of the version which it belongs to: the call itself names none. A resume keeps it,
+    /// so it is not given again. A device that saves does so after this, and before its reply to the announcement is
+    /// sent.
+    fn give_digest(&mut self) -> Result<(), Failure> {
+        let digest = match self.digest {
+            Some(digest) if self.device.target().as_str() == TARGET => digest,
+            _ => return Ok(()),
+        };
+        let given = expected("Device::give_digest", self.device.give_digest(&digest))?;
+        self.digests += u64::from(given.is_some());
+        Ok(())
+    }
+
+    /// For the account: all is stored, and did not pass.
+    fn failed(&mut self, now: Ticks) {
+        let check = pcp::check_of_bytes(&self.image[..self.device.image_length()]);
+        let by_digest = self.device.check_code().map_or(true, |code| code == check);
+        self.other_digests += u64::from(by_digest);
+        let why = if by_digest { "MD5 is not the one given" } else { "check is not the one announced" };
+        tell(format_args!("tick {}: all is stored, and the image's {}", now, why));
     }
 
     /// Asking changes nothing, so it is done again until an answer has come.
@@ -375,6 +418,7 @@ struct GatewayHost<'a> {
     /// Requests that this gateway answered.
     requests: u64,
     fruitless: u32,
+    failed: u32,
     started: u64,
 }
 
@@ -405,6 +449,7 @@ impl<'a> GatewayHost<'a> {
             executing: false,
             requests: 0,
             fruitless: 0,
+            failed: 0,
             started: 1,
         })
     }
@@ -496,10 +541,12 @@ impl<'a> GatewayHost<'a> {
     /// The next gateway, on the same package. One that stood still in Serve, and was asked for nothing, may have met a
     /// device that holds the whole package and has told it to an earlier gateway. Another fragment size makes an offer
     /// that is no resume: the device fetches the package again, and tests it again, which it would not if the offer had
-    /// no code. False: no use in going on.
+    /// no code. A download that failed is fetched again too, but not for ever: what failed twice was not damaged on the
+    /// way. False: no use in going on.
     fn next(&mut self, now: Ticks) -> Result<bool, Failure> {
+        self.failed += u32::from(self.gateway.ending() == Some(Ending::DownloadFailed));
         self.fruitless = if self.requests > 0 { 0 } else { self.fruitless + 1 };
-        if self.fruitless == MOST_FRUITLESS {
+        if self.failed == MOST_FAILED || self.fruitless == MOST_FRUITLESS {
             return Ok(false);
         }
         if self.gateway.phase() == GatewayPhase::Serve && self.requests == 0 {
@@ -561,6 +608,9 @@ fn report(device: &DeviceHost, gateway: &GatewayHost, link: &Link, succeeded: bo
     tell(format_args!("messages: {} sent, {} lost, {} repeated", link.sent, link.lost, link.repeated));
     tell(format_args!("fragments: {} stored, {} came again", device.stored, device.repeated));
     tell(format_args!("resumes: {}, gateways: {}", device.resumes, gateway.started));
+    if device.digest.is_some() {
+        tell(format_args!("digests: {} given, {} failed", device.digests, device.other_digests));
+    }
     if !succeeded {
         tell(format_args!("gave up: the device was not upgraded"));
     } else if !device.runs_target() {
@@ -587,9 +637,22 @@ fn read_number<T: FromStr>(text: &str) -> Option<T> {
     text.parse().ok().filter(|_| text.bytes().all(|byte| byte.is_ascii_digit()))
 }
 
+/// Two hex digits for each byte, as md5sum prints them, or capital ones.
+fn read_digest(text: &str) -> Option<Digest> {
+    if text.len() != 2 * DIGEST_LENGTH || !text.bytes().all(|byte| byte.is_ascii_hexdigit()) {
+        return None;
+    }
+    let mut digest = [0; DIGEST_LENGTH];
+    for (at, byte) in digest.iter_mut().enumerate() {
+        *byte = u8::from_str_radix(&text[2 * at..2 * at + 2], 16).ok()?;
+    }
+    Some(digest)
+}
+
 /// What the program is called with.
 struct Call {
     capture: Option<String>,
+    digest: Option<Digest>,
     package: String,
     seed: u64,
     size: u16,
@@ -598,18 +661,24 @@ struct Call {
 fn arguments() -> Option<Call> {
     let arguments: Vec<String> =
         env::args_os().skip(1).map(|argument| argument.into_string().ok()).collect::<Option<_>>()?;
-    let (capture, others) = match arguments.as_slice() {
-        [option, path, others @ ..] if option == "--capture" => (Some(path.clone()), others),
-        [option] if option == "--capture" => return None,
-        others => (None, others),
-    };
+    let (mut capture, mut digest) = (None, None);
+    let mut others = arguments.as_slice();
+    while let Some(option) = others.first().filter(|option| option.starts_with("--")) {
+        let value = others.get(1)?;
+        match option.as_str() {
+            "--capture" => capture = Some(value.clone()),
+            "--digest" => digest = Some(read_digest(value)?),
+            _ => return None,
+        }
+        others = &others[2..];
+    }
     let (package, seed, size) = match others {
         [package] => (package, 1, SIZE_PUBLIC),
         [package, seed] => (package, read_number(seed)?, SIZE_PUBLIC),
         [package, seed, size] => (package, read_number(seed)?, read_number(size)?),
         _ => return None,
     };
-    Some(Call { capture, package: package.clone(), seed, size })
+    Some(Call { capture, digest, package: package.clone(), seed, size })
 }
 
 fn run() -> Result<bool, Failure> {
@@ -617,7 +686,7 @@ fn run() -> Result<bool, Failure> {
     let package = read_package(&call.package)?;
     let mut gateway = GatewayHost::new(&package, call.size)?;
     let recorder = call.capture.as_deref().map(Recorder::new).transpose()?;
-    let mut device = DeviceHost::new(!call.seed, recorder)?;
+    let mut device = DeviceHost::new(!call.seed, recorder, call.digest)?;
     let mut link = Link::new(call.seed);
     let succeeded = upgrade(&mut device, &mut gateway, &mut link)?;
     Ok(report(&device, &gateway, &link, succeeded))

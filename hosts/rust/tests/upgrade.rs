@@ -1,10 +1,10 @@
 //! A whole upgrade without losses, by the crate's types alone: what each call answers, and what it says has changed.
-//! And captures, written, read and mended.
+//! Digests given to a device. And captures, written, read and mended.
 
 use pcp::capture::{self, Direction, Item, Reader, Record};
 use pcp::{
     Code, Condition, Device, DevicePhase, Ending, Facts, Gateway, GatewayPhase, InstallCode, Refusal,
-    DEVICE_RECORD, DEVICE_REPLY, GATEWAY_RECORD, GATEWAY_REPLY,
+    DEVICE_RECORD, DEVICE_REPLY, DIGEST_LENGTH, GATEWAY_RECORD, GATEWAY_REPLY,
 };
 
 /// Two fragments: 32 bytes, then 18.
@@ -169,6 +169,128 @@ fn a_repeat_that_differs_fails_the_download() {
     assert!(!Refusal::RepeatDiffers.is_hosts_fault());
     let report = pair.device_asks().unwrap();
     assert_eq!((report[3], report[8]), (22, 0x07));
+}
+
+/// The package's MD5, as md5sum has it.
+const DIGEST: [u8; DIGEST_LENGTH] =
+    [0x1D, 0xF7, 0xC5, 0x2D, 0x76, 0xF8, 0x93, 0xF5, 0x40, 0x0B, 0xE2, 0x95, 0x0E, 0xAE, 0x05, 0x8D];
+
+/// Where the record has the flag, and then the digest.
+const DIGEST_SET: usize = 44;
+
+impl Pair {
+    /// Up to where the download has begun.
+    fn offered() -> Pair {
+        let mut pair = Pair::new();
+        pair.gateway_speaks();
+        pair.gateway_speaks();
+        pair
+    }
+
+    /// The phase in which the download ends with this digest.
+    fn ended_with(digest: &[u8; DIGEST_LENGTH]) -> DevicePhase {
+        let mut pair = Pair::offered();
+        pair.device.give_digest(digest).unwrap();
+        pair.device_speaks();
+        pair.device_speaks();
+        assert_eq!(pair.device.expected_digest(), Some(*digest));
+        pair.device.phase()
+    }
+}
+
+#[test]
+fn a_digest_is_tested_at_completion() {
+    assert_eq!(Pair::ended_with(&DIGEST), DevicePhase::Loaded);
+    assert_eq!(Pair::ended_with(&[0; DIGEST_LENGTH]), DevicePhase::Failed);
+    for bit in 0..8 * DIGEST_LENGTH {
+        let mut other = DIGEST;
+        other[bit / 8] ^= 1 << (bit % 8);
+        assert_eq!(Pair::ended_with(&other), DevicePhase::Failed);
+    }
+    // Failed is told, the gateway ends, and its next offer begins without a digest.
+    let mut pair = Pair::offered();
+    pair.device_speaks();
+    pair.device.give_digest(&[0; DIGEST_LENGTH]).unwrap();
+    assert_eq!(pair.device_speaks(), Some((32, 18)));
+    assert_eq!(pair.device_asks().unwrap()[8], 0x07);
+    assert_eq!(pair.device_speaks(), None);
+    assert_eq!(pair.phases(), (DevicePhase::Idle, GatewayPhase::Ended));
+    assert_eq!(pair.gateway.ending(), Some(Ending::DownloadFailed));
+    pair.gateway = Gateway::start(b"V1.0", SIZE, PACKAGE, true).unwrap();
+    pair.gateway_speaks();
+    assert!(pair.gateway_speaks());
+    assert_eq!(pair.device.expected_digest(), None);
+}
+
+#[test]
+fn a_digest_is_given_in_loading() {
+    let mut pair = Pair::new();
+    assert_eq!(pair.device.give_digest(&DIGEST), Err(Refusal::NoUse));
+    assert_eq!((pair.device.phase(), pair.device.expected_digest()), (DevicePhase::Idle, None));
+    pair.gateway_speaks();
+    pair.gateway_speaks();
+    let before = *pair.device.record();
+    pair.device.give_digest(&[0; DIGEST_LENGTH]).unwrap();
+    assert_eq!(pair.device.expected_digest(), Some([0; DIGEST_LENGTH]));
+    // It replaces the one before, and stands at the end of the record; all else is as it was.
+    pair.device.give_digest(&DIGEST).unwrap();
+    let record = *pair.device.record();
+    assert_eq!(record[..DIGEST_SET], before[..DIGEST_SET]);
+    assert_eq!((record[DIGEST_SET], &record[DIGEST_SET + 1..]), (1, &DIGEST[..]));
+    assert_eq!(Device::from_record(record), Ok(pair.device.clone()));
+    // A resume keeps it; an offer of another package does not.
+    pair.gateway = Gateway::start(b"V1.0", SIZE, PACKAGE, true).unwrap();
+    assert!(!pair.gateway_speaks());
+    assert!(!pair.gateway_speaks());
+    assert_eq!(pair.device.expected_digest(), Some(DIGEST));
+    pair.gateway = Gateway::start(b"V1.1", SIZE, PACKAGE, true).unwrap();
+    assert!(!pair.gateway_speaks());
+    assert!(pair.gateway_speaks());
+    assert_eq!(pair.device.expected_digest(), None);
+    for flag in 2..=255 {
+        let mut other = record;
+        other[DIGEST_SET] = flag;
+        assert_eq!(Device::from_record(other), Err(Refusal::BadRecord));
+    }
+}
+
+#[test]
+fn a_digest_is_of_no_use_outside_loading() {
+    let mut pair = Pair::loaded();
+    let mut phases = Vec::new();
+    for step in 0..5 {
+        let before = pair.device.clone();
+        assert_eq!(pair.device.give_digest(&DIGEST), Err(Refusal::NoUse));
+        assert_eq!(pair.device, before);
+        phases.push(pair.device.phase());
+        match step {
+            1 => drop(pair.gateway_speaks()),
+            2 => pair.device.install_finished(InstallCode::Installed).unwrap(),
+            0 | 3 => drop(pair.device_speaks()),
+            _ => {}
+        }
+    }
+    use DevicePhase::{Acked, Idle, Installing, Loaded, Reporting};
+    assert_eq!(phases, [Loaded, Acked, Installing, Reporting, Idle]);
+}
+
+#[test]
+fn a_digest_that_was_given_is_tested() {
+    let right = pcp::md5::digest(PACKAGE);
+    let mut wrong = right;
+    wrong[15] ^= 1;
+    for (digest, phase) in [(right, DevicePhase::Loaded), (wrong, DevicePhase::Failed)] {
+        let mut pair = Pair::new();
+        assert_eq!(pair.device.give_digest(&digest), Err(Refusal::NoUse));
+        pair.gateway_speaks();
+        pair.gateway_speaks();
+        assert_eq!(pair.device.expected_digest(), None);
+        assert_eq!(pair.device.give_digest(&digest), Ok(()));
+        assert_eq!(pair.device.expected_digest(), Some(digest));
+        pair.device_speaks();
+        pair.device_speaks();
+        assert_eq!(pair.device.phase(), phase);
+    }
 }
 
 #[test]
