@@ -21,6 +21,7 @@ are_numbers() {
 package_of() {
     case $1 in
         cargo-clippy) echo rust-clippy ;;
+        md5sum) echo coreutils ;;
         *) echo "$1" ;;
     esac
 }
@@ -31,15 +32,19 @@ need() {
     for tool; do
         command -v "$tool" >/dev/null || missing+=("$(package_of "$tool")")
     done
-    if [ ${#missing[@]} -eq 0 ]; then
-        return
+    if [ ${#missing[@]} -gt 0 ]; then
+        add_packages "${missing[@]}"
     fi
+}
+
+# add_packages PACKAGE..: installs Debian's packages, where it may.
+add_packages() {
     if [ "$(id -u)" -ne 0 ] || ! command -v apt-get >/dev/null; then
-        echo "missing: ${missing[*]} (on Debian, as root: apt-get install ${missing[*]})" >&2
+        echo "missing: $* (on Debian, as root: apt-get install $*)" >&2
         exit 1
     fi
     apt-get update >&2
-    DEBIAN_FRONTEND=noninteractive apt-get install -y "${missing[@]}" >&2
+    DEBIAN_FRONTEND=noninteractive apt-get install -y "$@" >&2
 }
 
 # for_each MOST COMMAND ARGUMENT..: runs the command on each argument, so many at once; $failed is how many failed. Each
@@ -113,8 +118,8 @@ last_line() {
 
 # What a Rust program needs so that its calls of the library pass through tests/c/boundary.c; the archive comes after it.
 boundary=(-C linker=gcc -C default-linker-libraries=yes -C link-arg="${sanitizers[0]}" -C link-arg=target/hosts/boundary.o)
-for symbol in check message_check recognise raw_device_{new,receive,next_message,install_finished} \
-    raw_gateway_{start,receive,next_message} raw_capture_{kind,next,mended,write}; do
+for symbol in check message_check recognise raw_device_{new,receive,next_message,install_finished,give_digest} \
+    raw_gateway_{start,receive,next_message} raw_capture_{kind,next,mended,write} raw_md5{,_new,_feed,_finish}; do
     boundary+=(-C "link-arg=-Wl,--wrap=pcp_$symbol")
 done
 

@@ -15,6 +15,7 @@
 #define pcp_raw_device_receive __real_pcp_raw_device_receive
 #define pcp_raw_device_next_message __real_pcp_raw_device_next_message
 #define pcp_raw_device_install_finished __real_pcp_raw_device_install_finished
+#define pcp_raw_device_give_digest __real_pcp_raw_device_give_digest
 #define pcp_raw_gateway_start __real_pcp_raw_gateway_start
 #define pcp_raw_gateway_receive __real_pcp_raw_gateway_receive
 #define pcp_raw_gateway_next_message __real_pcp_raw_gateway_next_message
@@ -22,7 +23,12 @@
 #define pcp_raw_capture_next __real_pcp_raw_capture_next
 #define pcp_raw_capture_mended __real_pcp_raw_capture_mended
 #define pcp_raw_capture_write __real_pcp_raw_capture_write
+#define pcp_raw_md5 __real_pcp_raw_md5
+#define pcp_raw_md5_new __real_pcp_raw_md5_new
+#define pcp_raw_md5_feed __real_pcp_raw_md5_feed
+#define pcp_raw_md5_finish __real_pcp_raw_md5_finish
 #include "pcp_capture.h"
+#include "pcp_md5.h"
 
 #include <stdio.h>
 #include <stdlib.h>
@@ -34,7 +40,8 @@ enum {
     GUARD = 1 << 16 /* a whole number of pages */
 };
 
-/* The buffers that a call may have. */
+/* The buffers that a call may have.  MD5's state is lent as RECORD, a digest
+   that is written as REPLY. */
 enum { RECORD, INPUT, IMAGE, MAP, PACKAGE, REPLY, CAPTURE, BUFFERS };
 
 /* Where their copies are. */
@@ -238,6 +245,11 @@ static uint64_t device_install_finished(const call *c,
     return pcp_device_install_finished(COPY(RECORD), c->code);
 }
 
+static uint64_t device_give_digest(const call *c, uint8_t *const at[BUFFERS])
+{
+    return pcp_device_give_digest(COPY(RECORD), COPY(INPUT));
+}
+
 static uint64_t gateway_start(const call *c, uint8_t *const at[BUFFERS])
 {
     return pcp_gateway_start(COPY(RECORD), COPY(INPUT), c->size, COPY(PACKAGE),
@@ -327,6 +339,26 @@ static uint64_t capture_write(const call *c, uint8_t *const at[BUFFERS])
     return written.number;
 }
 
+static uint64_t md5(const call *c, uint8_t *const at[BUFFERS])
+{
+    return pcp_md5(COPY(INPUT), COPY(REPLY));
+}
+
+static uint64_t md5_new(const call *c, uint8_t *const at[BUFFERS])
+{
+    return pcp_md5_new(COPY(RECORD));
+}
+
+static uint64_t md5_feed(const call *c, uint8_t *const at[BUFFERS])
+{
+    return pcp_md5_feed(COPY(RECORD), COPY(INPUT));
+}
+
+static uint64_t md5_finish(const call *c, uint8_t *const at[BUFFERS])
+{
+    return pcp_md5_finish(COPY(RECORD), COPY(REPLY));
+}
+
 /* What the runner calls: as the archive's own symbols, see the headers. */
 
 uint16_t __wrap_pcp_check(const uint8_t *bytes, size_t length)
@@ -402,6 +434,16 @@ uint8_t __wrap_pcp_raw_device_install_finished(uint8_t *record, size_t record_le
     call c = {.buffers[RECORD] = writes(record, record_length), .code = code};
 
     return (uint8_t)make(device_install_finished, &c);
+}
+
+uint8_t __wrap_pcp_raw_device_give_digest(uint8_t *record, size_t record_length,
+                                          const uint8_t *digest,
+                                          size_t digest_length)
+{
+    call c = {.buffers[RECORD] = writes(record, record_length),
+              .buffers[INPUT] = reads(digest, digest_length)};
+
+    return (uint8_t)make(device_give_digest, &c);
 }
 
 uint8_t __wrap_pcp_raw_gateway_start(uint8_t *record, size_t record_length,
@@ -481,4 +523,38 @@ uint8_t __wrap_pcp_raw_capture_write(uint8_t toward, const uint8_t *message,
               .at = at};
 
     return (uint8_t)make(capture_write, &c);
+}
+
+uint8_t __wrap_pcp_raw_md5(const uint8_t *bytes, size_t length, uint8_t *digest,
+                           size_t digest_length)
+{
+    call c = {.buffers[INPUT] = reads(bytes, length),
+              .buffers[REPLY] = writes(digest, digest_length)};
+
+    return (uint8_t)make(md5, &c);
+}
+
+uint8_t __wrap_pcp_raw_md5_new(uint8_t *state, size_t state_length)
+{
+    call c = {.buffers[RECORD] = writes(state, state_length)};
+
+    return (uint8_t)make(md5_new, &c);
+}
+
+uint8_t __wrap_pcp_raw_md5_feed(uint8_t *state, size_t state_length,
+                                const uint8_t *piece, size_t piece_length)
+{
+    call c = {.buffers[RECORD] = writes(state, state_length),
+              .buffers[INPUT] = reads(piece, piece_length)};
+
+    return (uint8_t)make(md5_feed, &c);
+}
+
+uint8_t __wrap_pcp_raw_md5_finish(const uint8_t *state, size_t state_length,
+                                  uint8_t *digest, size_t digest_length)
+{
+    call c = {.buffers[RECORD] = reads(state, state_length),
+              .buffers[REPLY] = writes(digest, digest_length)};
+
+    return (uint8_t)make(md5_finish, &c);
 }

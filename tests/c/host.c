@@ -2,10 +2,11 @@
    is written here from 01 and shares no code with it, on published, valid,
    damaged and random messages.  The inputs are the same in every run.  Also
    tries numbers that only the header's types can hold, what the header's
-   answers and looks say of record, image and map, and captures through
-   pcp_capture.h. */
+   answers and looks say of record, image and map, digests given to a device,
+   captures through pcp_capture.h, and digests through pcp_md5.h. */
 #define _DEFAULT_SOURCE /* for MAP_ANONYMOUS */
 #include "pcp_capture.h"
+#include "pcp_md5.h"
 
 #include <limits.h>
 #include <stdio.h>
@@ -894,6 +895,145 @@ static void try_looks(void)
     compared++;
 }
 
+/* Digests.  The package is the fragment that 01 prints, its digest is md5sum's;
+   the code is its check, or 0. */
+
+static const uint8_t hello_digest[PCP_DIGEST_LENGTH] = {
+    0xC9, 0xAB, 0xE6, 0xC6, 0xC4, 0xA2, 0xD1, 0x2B,
+    0xD3, 0x3E, 0x63, 0x89, 0x1A, 0xA4, 0x31, 0x33};
+static const char hello[] =
+    "FFFE0115E107001300000048454C4C4F2C20496F5420534F544121";
+
+enum { DIGEST_SET = 44, DIGEST = 45 }; /* places in the record */
+
+/* The announcement that 01 prints, with this code; the phase after it. */
+static unsigned announce_hello(unsigned code)
+{
+    uint8_t reply[PCP_DEVICE_REPLY];
+    size_t length = make_from_hex(
+        "FFFE01143AE6001656312E3000000000000000000000000001F400010000");
+
+    set_word(28, code);
+    seal(length);
+    expect("announcement", 0,
+           pcp_device_receive(record, sizeof record, 1, 1, PCP_READY, message,
+                              length, image, sizeof image, map, sizeof map,
+                              reply, sizeof reply)
+               .number,
+           message, length);
+    return pcp_device_phase(record);
+}
+
+/* A digest is given, of the first bytes of one, or as NULL if there are none;
+   nothing but flag and digest changes, and nothing at all if it is refused. */
+static void give_digest(const char *what, const uint8_t *digest, size_t length,
+                        unsigned number)
+{
+    uint8_t expected[PCP_DEVICE_RECORD];
+
+    memcpy(expected, record, sizeof expected);
+    if (number == PCP_HANDLED) {
+        expected[DIGEST_SET] = 1;
+        memcpy(expected + DIGEST, digest, PCP_DIGEST_LENGTH);
+    }
+    expect(what, number,
+           pcp_device_give_digest(record, sizeof record,
+                                  length == 0 ? NULL : digest, length),
+           record, sizeof record);
+    expect("record after a digest", 0,
+           memcmp(expected, record, sizeof record) != 0, record, sizeof record);
+    compared++;
+}
+
+static void expect_set(const char *what, int set, const uint8_t *digest)
+{
+    static const uint8_t zeros[PCP_DIGEST_LENGTH] = {0};
+
+    expect(what, (unsigned)set, record[DIGEST_SET], record, sizeof record);
+    expect(what, (unsigned)set, pcp_device_digest_set(record), record,
+           sizeof record);
+    expect(what, 0,
+           memcmp(record + DIGEST, set ? digest : zeros, sizeof zeros) != 0,
+           record, sizeof record);
+    expect(what, 0,
+           memcmp(pcp_device_digest(record), record + DIGEST, sizeof zeros) != 0,
+           record, sizeof record);
+    compared++;
+}
+
+/* The phase in which the download ends with a digest of which one bit is
+   changed; 128: none. */
+static unsigned hello_ended(unsigned code, unsigned bit)
+{
+    uint8_t digest[PCP_DIGEST_LENGTH + 1] = {0};
+
+    memcpy(digest, hello_digest, sizeof hello_digest);
+    digest[bit / 8] ^= (uint8_t)(1 << bit % 8);
+    pcp_device_new(record, sizeof record, "V0.9", 4);
+    announce_hello(code);
+    give_digest("digest", digest, PCP_DIGEST_LENGTH, 0);
+    device_given(hello, PCP_READY, PCP_DEVICE_REPLY);
+    expect_set("digest after the download", 1, digest);
+    return pcp_device_phase(record);
+}
+
+static void try_digests_tested(void)
+{
+    unsigned check = own_check((const uint8_t *)"HELLO, IoT SOTA!", 16);
+
+    for (unsigned bit = 0; bit <= 8 * PCP_DIGEST_LENGTH; bit++) {
+        unsigned ended = bit == 8 * PCP_DIGEST_LENGTH ? PCP_DEVICE_LOADED
+                                                      : PCP_DEVICE_FAILED;
+
+        expect("download with a digest", ended, hello_ended(check, bit), record,
+               sizeof record);
+        expect("download with a digest, no code", ended, hello_ended(0, bit),
+               record, sizeof record);
+        expect("download with a digest, wrong code", PCP_DEVICE_FAILED,
+               hello_ended(check ^ 1, bit), record, sizeof record);
+    }
+}
+
+/* 9 outside Loading, 64 for another length, 29 for a flag that is none; a digest
+   replaces another, a resume keeps it, another announcement clears it. */
+static void try_digests_given(void)
+{
+    static const uint8_t zeros[PCP_DIGEST_LENGTH] = {0};
+    uint8_t longer[2 * PCP_DIGEST_LENGTH] = {0};
+    unsigned check = own_check((const uint8_t *)"HELLO, IoT SOTA!", 16);
+
+    pcp_device_new(record, sizeof record, "V0.9", 4);
+    expect_set("digest of a new record", 0, NULL);
+    give_digest("digest in Idle", hello_digest, PCP_DIGEST_LENGTH, PCP_NO_USE);
+    announce_hello(check);
+    for (size_t length = 0; length <= sizeof longer; length++)
+        give_digest("digest of a length", longer, length,
+                    length == PCP_DIGEST_LENGTH ? 0 : PCP_SHORT_RECORD);
+    expect_set("digest of zeros", 1, zeros);
+    give_digest("second digest", hello_digest, PCP_DIGEST_LENGTH, 0);
+    expect("resume", PCP_DEVICE_LOADING, announce_hello(check), record, 0);
+    expect_set("digest after a resume", 1, hello_digest);
+    expect("recut", PCP_DEVICE_LOADING, announce_hello(check ^ 1), record, 0);
+    expect_set("digest after another announcement", 0, NULL);
+    for (int flag = 2; flag < 256; flag++) {
+        record[DIGEST_SET] = (uint8_t)flag;
+        give_digest("digest over a bad flag", hello_digest, PCP_DIGEST_LENGTH,
+                    PCP_BAD_RECORD);
+        expect("bad flag", PCP_BAD_RECORD,
+               device_given(hello, PCP_READY, PCP_DEVICE_REPLY), record,
+               sizeof record);
+    }
+    give_digest("64 before 29", hello_digest, PCP_DIGEST_LENGTH - 1,
+                PCP_SHORT_RECORD);
+    expect("short record", PCP_SHORT_RECORD,
+           pcp_device_give_digest(record, PCP_DEVICE_RECORD - 1, hello_digest,
+                                  PCP_DIGEST_LENGTH),
+           record, sizeof record);
+    expect("no record", PCP_SHORT_RECORD,
+           pcp_device_give_digest(NULL, 0, hello_digest, PCP_DIGEST_LENGTH),
+           record, sizeof record);
+}
+
 /* Captures.  The bytes at work: 55, a query toward the device, an empty record
    from it, 4C, and behind that 55. */
 
@@ -1005,6 +1145,180 @@ static void try_longest_record(void)
                 PCP_CUT_SHORT, 0, 0, 0);
 }
 
+/* Digests.  No bytes are lent as NULL. */
+
+enum { BEHIND = 9 }; /* bytes behind a state */
+
+static const uint8_t *or_null(const uint8_t *bytes, size_t length)
+{
+    return length == 0 ? NULL : bytes;
+}
+
+static void expect_digest(const char *what, const char *hex,
+                          const uint8_t *digest)
+{
+    char found[2 * PCP_DIGEST_LENGTH + 1];
+
+    for (size_t i = 0; i < PCP_DIGEST_LENGTH; i++)
+        snprintf(found + 2 * i, 3, "%02x", digest[i]);
+    expect(what, 0, strcmp(hex, found) != 0, digest, PCP_DIGEST_LENGTH);
+    compared++;
+}
+
+/* In two pieces, with an empty one between them.  Finishing is done twice: it
+   changes no state, and what is behind that stays. */
+static void try_pieces(const uint8_t *bytes, size_t length, size_t cut,
+                       const char *hex)
+{
+    uint8_t state[PCP_MD5_STATE + BEHIND], before[sizeof state];
+    uint8_t digest[PCP_DIGEST_LENGTH];
+    unsigned number;
+
+    memset(state, 0x55, sizeof state);
+    number = pcp_md5_new(state, sizeof state);
+    number |= pcp_md5_feed(state, sizeof state, or_null(bytes, cut), cut);
+    number |= pcp_md5_feed(state, sizeof state, NULL, 0);
+    number |= pcp_md5_feed(state, sizeof state,
+                           or_null(bytes + cut, length - cut), length - cut);
+    memcpy(before, state, sizeof before);
+    for (int times = 0; times < 2; times++) {
+        memset(digest, 0, sizeof digest);
+        number |= pcp_md5_finish(state, sizeof state, digest, sizeof digest);
+        expect_digest("digest of pieces", hex, digest);
+    }
+    expect("pieces", 0, number, bytes, length);
+    expect("finished state", 0, memcmp(before, state, sizeof state) != 0, state,
+           sizeof state);
+    for (size_t i = PCP_MD5_STATE; i < sizeof state; i++)
+        expect("behind the state", 0x55, state[i], state, sizeof state);
+}
+
+/* The test suite of RFC 1321 (A.5), right before memory that cannot be read. */
+static void try_suite(void)
+{
+    static const struct {
+        const char *text, *digest;
+    } suite[] = {
+        {"", "d41d8cd98f00b204e9800998ecf8427e"},
+        {"a", "0cc175b9c0f1b6a831c399e269772661"},
+        {"abc", "900150983cd24fb0d6963f7d28e17f72"},
+        {"message digest", "f96b697d7cb7938d525a2f31aaf161d0"},
+        {"abcdefghijklmnopqrstuvwxyz", "c3fcd3d76192e4007dfb496cca67e13b"},
+        {"ABCDEFGHIJKLMNOPQRSTUVWXYZabcdefghijklmnopqrstuvwxyz0123456789",
+         "d174ab98d277d9f5a5611c2c9f419d9f"},
+        {"1234567890123456789012345678901234567890"
+         "1234567890123456789012345678901234567890",
+         "57edf4a22be3c955ac49da2e2107b67a"},
+    };
+
+    for (size_t i = 0; i < sizeof suite / sizeof suite[0]; i++) {
+        size_t length = strlen(suite[i].text);
+        uint8_t *lent = guard - length, digest[PCP_DIGEST_LENGTH];
+
+        memcpy(lent, suite[i].text, length);
+        expect("digest", 0,
+               pcp_md5(or_null(lent, length), length, digest, sizeof digest),
+               lent, length);
+        expect_digest("digest", suite[i].digest, digest);
+        for (size_t cut = 0; cut <= length; cut++)
+            try_pieces(lent, length, cut, suite[i].digest);
+    }
+}
+
+/* Buffers of other lengths are refused, and stay. */
+static void try_digest_lengths(void)
+{
+    static const size_t states[] = {0, 1, 16, 87};
+    static const size_t digests[] = {0, 1, 15, 17, 88};
+    uint8_t state[PCP_MD5_STATE], bytes[PCP_MD5_STATE];
+
+    memset(bytes, 0x55, sizeof bytes);
+    for (size_t i = 0; i < sizeof states / sizeof states[0]; i++) {
+        uint8_t *lent = states[i] == 0 ? NULL : bytes;
+        uint8_t digest[PCP_DIGEST_LENGTH] = {0};
+
+        expect("short state made", PCP_SHORT_RECORD,
+               pcp_md5_new(lent, states[i]), bytes, states[i]);
+        expect("short state fed", PCP_SHORT_RECORD,
+               pcp_md5_feed(lent, states[i], message, 64), bytes, states[i]);
+        expect("short state finished", PCP_SHORT_RECORD,
+               pcp_md5_finish(lent, states[i], digest, sizeof digest), bytes,
+               states[i]);
+        for (size_t j = 0; j < sizeof digest; j++)
+            expect("digest of a short state", 0, digest[j], digest,
+                   sizeof digest);
+    }
+    expect("state made", 0, pcp_md5_new(state, sizeof state), state,
+           sizeof state);
+    for (size_t i = 0; i < sizeof digests / sizeof digests[0]; i++) {
+        uint8_t *lent = digests[i] == 0 ? NULL : bytes;
+
+        expect("digest of another length", PCP_SHORT_RECORD,
+               pcp_md5(message, 64, lent, digests[i]), bytes, digests[i]);
+        expect("digest of another length, finished", PCP_SHORT_RECORD,
+               pcp_md5_finish(state, sizeof state, lent, digests[i]), bytes,
+               digests[i]);
+        compared++;
+    }
+    for (size_t i = 0; i < sizeof bytes; i++)
+        expect("refused buffer", 0x55, bytes[i], bytes, sizeof bytes);
+}
+
+/* A device in Loading is given the digest of what it downloads, and before that
+   some that are none. */
+static void try_given_digest(void)
+{
+    static const size_t lengths[] = {0, 1, 15, 17, 32};
+    uint8_t before[PCP_DEVICE_RECORD], digest[32] = {0};
+
+    expect("making", 0, pcp_device_new(record, sizeof record, "V0.9", 4),
+           record, sizeof record);
+    expect("announcement", 0,
+           device_given("FFFE01143AE6001656312E30000000000000000000000000"
+                        "01F400010000",
+                        PCP_READY, PCP_DEVICE_REPLY),
+           record, sizeof record);
+    memcpy(before, record, sizeof before);
+    for (size_t i = 0; i < sizeof lengths / sizeof lengths[0]; i++)
+        expect_refused("digest given of another length", PCP_SHORT_RECORD,
+                       pcp_device_give_digest(record, sizeof record,
+                                              lengths[i] == 0 ? NULL : digest,
+                                              lengths[i]),
+                       before);
+    pcp_md5((const uint8_t *)"HELLO, IoT SOTA!", 16, digest,
+            PCP_DIGEST_LENGTH);
+    expect("digest given", 0,
+           pcp_device_give_digest(record, sizeof record, digest,
+                                  PCP_DIGEST_LENGTH),
+           record, sizeof record);
+    expect("fragment", 0,
+           device_given("FFFE0115E107001300000048454C4C4F2C20496F5420534F544121",
+                        PCP_READY, PCP_DEVICE_REPLY),
+           record, sizeof record);
+    expect("phase", PCP_DEVICE_LOADED, pcp_device_phase(record), record,
+           sizeof record);
+    compared++;
+}
+
+/* The longest input, whole and in random pieces. */
+static void try_long_digest(void)
+{
+    uint8_t state[PCP_MD5_STATE];
+    uint8_t whole[PCP_DIGEST_LENGTH], pieces[PCP_DIGEST_LENGTH];
+
+    fill_random(0, LONGEST);
+    pcp_md5(message, LONGEST, whole, sizeof whole);
+    pcp_md5_new(state, sizeof state);
+    for (size_t at = 0, n; at < LONGEST; at += n) {
+        n = at_most(LONGEST - at, below(2) == 0 ? below(200) : below(100000));
+        pcp_md5_feed(state, sizeof state, message + at, n);
+    }
+    pcp_md5_finish(state, sizeof state, pieces, sizeof pieces);
+    expect("digest of a long input", 0,
+           memcmp(whole, pieces, sizeof whole) != 0, pieces, sizeof pieces);
+    compared++;
+}
+
 int main(void)
 {
     uint8_t *room = mmap(NULL, (size_t)LONGEST + GUARD, PROT_READ | PROT_WRITE,
@@ -1032,9 +1346,15 @@ int main(void)
     try_texts();
     try_answers();
     try_looks();
+    try_digests_given();
+    try_digests_tested();
     try_records();
     try_items();
     try_longest_record();
+    try_suite();
+    try_digest_lengths();
+    try_given_digest();
+    try_long_digest();
 
     printf("c host: %lu compared, %lu different\n", compared, different);
     return different == 0 ? EXIT_SUCCESS : EXIT_FAILURE;

@@ -5,6 +5,7 @@
    was measured, or more than STATED times as much and a little. */
 #define _XOPEN_SOURCE 700 /* for ucontext.h */
 #include "pcp_capture.h"
+#include "pcp_md5.h"
 
 #include <stdio.h>
 #include <stdlib.h>
@@ -113,6 +114,15 @@ static void device_install_finished(void)
     result = pcp_device_install_finished(device, sizeof device, code);
 }
 
+static uint8_t state[PCP_MD5_STATE], digest[PCP_DIGEST_LENGTH];
+static size_t state_room = sizeof state, piece_length;
+
+static void device_give_digest(void)
+{
+    result = pcp_device_give_digest(device, sizeof device, digest,
+                                    sizeof digest);
+}
+
 static void gateway_start(void)
 {
     result = pcp_gateway_start(gateway, sizeof gateway, "V2.0", 4, SIZE,
@@ -153,6 +163,26 @@ static void capture_mended(void)
     result = pcp_capture_mended(capture, sizeof capture, capture_place).kind;
 }
 
+static void md5(void)
+{
+    result = pcp_md5(package, sizeof package, digest, sizeof digest);
+}
+
+static void md5_new(void)
+{
+    result = pcp_md5_new(state, state_room);
+}
+
+static void md5_feed(void)
+{
+    result = pcp_md5_feed(state, state_room, package, piece_length);
+}
+
+static void md5_finish(void)
+{
+    result = pcp_md5_finish(state, state_room, digest, sizeof digest);
+}
+
 enum {
     CHECK,
     MESSAGE_CHECK,
@@ -160,6 +190,7 @@ enum {
     DEVICE_NEW,
     DEVICE_RECEIVE,
     DEVICE_NEXT,
+    DEVICE_DIGEST,
     DEVICE_FINISHED,
     GATEWAY_START,
     GATEWAY_RECEIVE,
@@ -167,6 +198,10 @@ enum {
     CAPTURE_WRITE,
     CAPTURE_NEXT,
     CAPTURE_MENDED,
+    MD5,
+    MD5_NEW,
+    MD5_FEED,
+    MD5_FINISH,
     CALLS
 };
 
@@ -177,6 +212,7 @@ static measured calls[CALLS] = {
     [DEVICE_NEW] = {"pcp_device_new", device_new, 0},
     [DEVICE_RECEIVE] = {"pcp_device_receive", device_receive, 0},
     [DEVICE_NEXT] = {"pcp_device_next_message", device_next_message, 0},
+    [DEVICE_DIGEST] = {"pcp_device_give_digest", device_give_digest, 0},
     [DEVICE_FINISHED] = {"pcp_device_install_finished",
                          device_install_finished, 0},
     [GATEWAY_START] = {"pcp_gateway_start", gateway_start, 0},
@@ -185,6 +221,10 @@ static measured calls[CALLS] = {
     [CAPTURE_WRITE] = {"pcp_capture_write", capture_write, 0},
     [CAPTURE_NEXT] = {"pcp_capture_next", capture_next, 0},
     [CAPTURE_MENDED] = {"pcp_capture_mended", capture_mended, 0},
+    [MD5] = {"pcp_md5", md5, 0},
+    [MD5_NEW] = {"pcp_md5_new", md5_new, 0},
+    [MD5_FEED] = {"pcp_md5_feed", md5_feed, 0},
+    [MD5_FINISH] = {"pcp_md5_finish", md5_finish, 0},
 };
 
 /* The upgrade. */
@@ -269,13 +309,36 @@ static void device_begins(void)
     }
 }
 
+/* Pieces that leave a block open, make it whole and go beyond it, and a buffer
+   that is too short. */
+static void digest_in_pieces(void)
+{
+    static const size_t pieces[] = {0, 63, 1, 3, 64, 61, 200, PACKAGE};
+
+    measure(&calls[MD5_NEW]);
+    for (size_t i = 0; i < sizeof pieces / sizeof pieces[0]; i++) {
+        piece_length = pieces[i];
+        measure(&calls[MD5_FEED]);
+        measure(&calls[MD5_FINISH]);
+    }
+    state_room = 0;
+    measure(&calls[MD5_NEW]);
+    measure(&calls[MD5_FEED]);
+    measure(&calls[MD5_FINISH]);
+    state_room = sizeof state;
+}
+
 static void upgrade(void)
 {
+    digest_in_pieces();
+    measure(&calls[MD5]); /* the package's, which the device is given */
     measure(&calls[DEVICE_NEW]);
+    measure(&calls[DEVICE_DIGEST]); /* refused */
     measure(&calls[GATEWAY_START]);
     gateway_begins(); /* query */
     gateway_begins(); /* announcement */
-    device_begins();  /* fragments, download result */
+    measure(&calls[DEVICE_DIGEST]);
+    device_begins(); /* fragments, the image's check and digest, download result */
     gateway_begins(); /* execute */
     code = -1;
     measure(&calls[DEVICE_FINISHED]);

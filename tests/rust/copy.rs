@@ -87,6 +87,17 @@ pub unsafe extern "C" fn pcp_raw_device_install_finished(
 }
 
 #[no_mangle]
+pub unsafe extern "C" fn pcp_raw_device_give_digest(
+    record: *mut u8,
+    record_length: usize,
+    digest: *const u8,
+    digest_length: usize,
+) -> u8 {
+    Reading
+        .device_give_digest(from_raw_parts_mut(record, record_length), from_raw_parts(digest, digest_length))
+}
+
+#[no_mangle]
 pub unsafe extern "C" fn pcp_raw_gateway_start(
     record: *mut u8,
     record_length: usize,
@@ -178,4 +189,39 @@ pub unsafe extern "C" fn pcp_raw_capture_write(
         from_raw_parts_mut(buffer, buffer_length),
         at,
     )
+}
+
+#[no_mangle]
+pub unsafe extern "C" fn pcp_raw_md5(
+    bytes: *const u8,
+    length: usize,
+    digest: *mut u8,
+    digest_length: usize,
+) -> u8 {
+    Reading.md5(from_raw_parts(bytes, length), from_raw_parts_mut(digest, digest_length))
+}
+
+#[no_mangle]
+pub unsafe extern "C" fn pcp_raw_md5_new(state: *mut u8, state_length: usize) -> u8 {
+    Reading.md5_new(from_raw_parts_mut(state, state_length))
+}
+
+#[no_mangle]
+pub unsafe extern "C" fn pcp_raw_md5_feed(
+    state: *mut u8,
+    state_length: usize,
+    piece: *const u8,
+    piece_length: usize,
+) -> u8 {
+    Reading.md5_feed(from_raw_parts_mut(state, state_length), from_raw_parts(piece, piece_length))
+}
+
+#[no_mangle]
+pub unsafe extern "C" fn pcp_raw_md5_finish(
+    state: *const u8,
+    state_length: usize,
+    digest: *mut u8,
+    digest_length: usize,
+) -> u8 {
+    Reading.md5_finish(from_raw_parts(state, state_length), from_raw_parts_mut(digest, digest_length))
 }

@@ -1,12 +1,13 @@
 //! `link_test [SEED]` runs the reading's two ends against each other. First over a link that loses, repeats, delays and
 //! reorders, until the upgrade has succeeded; then through random lists of calls, after each of which demand 3 of 01
-//! must hold.
+//! must hold. In both, digests are given, right ones and wrong ones (02, 2026-05).
 
 mod reading;
 mod support;
 
 use reading::device::{Device, CONDITIONS, INSTALLING, READY};
 use reading::gateway::{cut, Gateway, ALREADY_RUNNING, ENDED, OFFER, SUCCESS};
+use reading::md5::md5;
 use reading::message::{
     rounded_up, Facts, ToDevice, ToGateway, Version, BOTH_FACTS, DEVICE_ROOM, EXECUTE, GATEWAY_ROOM,
     UPGRADE_RESULTS,
@@ -114,6 +115,13 @@ impl Pair {
     fn package_is_in_image(&self) -> bool {
         self.image[..self.package.len()] == self.package
     }
+
+    /// A digest is given: mostly the package's.
+    fn give_digest(&mut self, random: &mut Random) {
+        let any = random.bytes(16).try_into().expect("16 bytes");
+        let own = md5(&self.package);
+        self.device.give_digest(random.pick(&[own, own, own, any]));
+    }
 }
 
 fn target() -> Version {
@@ -169,7 +177,7 @@ fn upgraded(pair: &Pair) -> Result<(), String> {
     }
 }
 
-/// One call of an upgrade: an end is asked, a message arrives, or the installer ends.
+/// One call of an upgrade: an end is asked, or a message arrives; before it the installer may end, or a digest be given.
 fn upgrade_call(random: &mut Random, pair: &mut Pair, air: &mut Vec<Sent>) {
     let mut call = FAIR_CALL;
     if random.once_in(30) {
@@ -177,6 +185,9 @@ fn upgrade_call(random: &mut Random, pair: &mut Pair, air: &mut Vec<Sent>) {
     }
     if pair.device.phase == INSTALLING && random.once_in(4) {
         pair.device.install_finished(random.pick(&[0x00, 0x00, 0x00, 0x0A]));
+    }
+    if random.once_in(20) {
+        pair.give_digest(random);
     }
     let (end, reply) = if air.is_empty() || random.once_in(3) {
         let end = either(random);
@@ -202,10 +213,11 @@ struct Watch {
     installed: bool,
 }
 
-/// How often the lists have come to the two points that demand 3 speaks about.
+/// How often the lists have come to the two points that demand 3 speaks about; to the first also with a digest set.
 #[derive(Default)]
 struct Reached {
     executed: usize,
+    digested: usize,
     succeeded: usize,
 }
 
@@ -225,6 +237,7 @@ fn list(random: &mut Random, reached: &mut Reached) -> Result<(), String> {
         }
     }
     reached.executed += usize::from(watch.executed);
+    reached.digested += usize::from(watch.executed && pair.device.digest_set == 1);
     reached.succeeded += usize::from(pair.gateway.phase == ENDED && pair.gateway.ending == SUCCESS);
     Ok(())
 }
@@ -241,9 +254,10 @@ fn history(random: &mut Random, pair: &mut Pair) {
     let calls = random.pick(&[0, 3, 15, 60]);
     for _ in 0..calls {
         let call = any_call(random);
-        match random.below(12) {
+        match random.below(13) {
             0 => drop(pair.ask(End::Device, call)),
             1 => drop(pair.device.install_finished(random.pick(&UPGRADE_RESULTS))),
+            2 => pair.give_digest(random),
             _ => {
                 let message = history_message(random, pair);
                 pair.give_device(&message, call);
@@ -301,6 +315,10 @@ fn list_call(
         watch.installed |= watch.executed && code == 0x00 && number == 0;
         return Ok(());
     }
+    if random.once_in(20) {
+        pair.give_digest(random);
+        return Ok(());
+    }
     let (end, reply) = if air.is_empty() || random.once_in(3) {
         let end = either(random);
         (end, pair.ask(end, call))
@@ -354,8 +372,8 @@ fn run(random: &mut Random) -> Result<Reached, String> {
     for _ in 0..LISTS {
         list(random, &mut reached)?;
     }
-    if reached.executed == 0 || reached.succeeded == 0 {
-        return Err("no list reached execution and success".to_string());
+    if reached.executed == 0 || reached.digested == 0 || reached.succeeded == 0 {
+        return Err("no list reached execution, that with a digest, or success".to_string());
     }
     Ok(reached)
 }
@@ -366,8 +384,11 @@ fn main() {
         process::exit(2);
     });
     match run(&mut Random::new(seed)) {
-        Ok(Reached { executed, succeeded }) => {
-            println!("lists that reached execution: {}, success: {}", executed, succeeded);
+        Ok(Reached { executed, digested, succeeded }) => {
+            println!(
+                "lists that reached execution: {}, of these with a digest: {}, success: {}",
+                executed, digested, succeeded
+            );
             println!("link: {} upgrades and {} lists, 0 failed", UPGRADES, LISTS);
         }
         Err(failure) => {

@@ -9,7 +9,7 @@ mod reading;
 mod support;
 
 use pcp::{Code, Condition, Device, DevicePhase, Ending, Facts, Gateway, GatewayPhase, InstallCode, Refusal};
-use pcp::{DEVICE_RECORD, DEVICE_REPLY, GATEWAY_RECORD, GATEWAY_REPLY, VERSION_LENGTH};
+use pcp::{DEVICE_RECORD, DEVICE_REPLY, DIGEST_LENGTH, GATEWAY_RECORD, GATEWAY_REPLY, VERSION_LENGTH};
 use pcp::{SIZE_MAX, SIZE_MIN, SIZE_PUBLIC};
 use reading::replay::hex;
 use std::collections::{BTreeMap, BTreeSet};
@@ -36,7 +36,7 @@ enum Form {
 /// A field of a record: its name, its length, and how it is shown.
 type Field = (&'static str, usize, Form);
 
-const DEVICE_FIELDS: [Field; 9] = [
+const DEVICE_FIELDS: [Field; 11] = [
     ("phase", 1, Form::Number),
     ("running", 16, Form::Text),
     ("target", 16, Form::Text),
@@ -46,6 +46,8 @@ const DEVICE_FIELDS: [Field; 9] = [
     ("stored", 2, Form::Number),
     ("last length", 2, Form::Number),
     ("installer", 1, Form::Hex),
+    ("digest set", 1, Form::Number),
+    ("digest", 16, Form::Hex),
 ];
 
 const GATEWAY_FIELDS: [Field; 6] = [
@@ -165,6 +167,7 @@ impl Exchange {
                 self.device_receive(message, value_of(number_in(condition)?)?)
             }
             ["device", "ask"] => Ok(self.device_ask()),
+            ["device", "digest", digest] => self.give_digest(digest),
             ["device", "install", code] => {
                 let code = u8::from_str_radix(code, 16).map_err(|_| format!("{} is no code", code))?;
                 Ok(self.install(value_of(code)?))
@@ -226,10 +229,22 @@ impl Exchange {
         self.device_shown(number, lines)
     }
 
+    fn give_digest(&mut self, digest: &str) -> Result<Shown, String> {
+        let digest: [u8; DIGEST_LENGTH] =
+            bytes(digest).try_into().map_err(|_| format!("{} is no digest", digest))?;
+        let before = *self.device.record();
+        let number = number_of(&self.device.give_digest(&digest));
+        Ok(self.device_changed(number, &before))
+    }
+
     fn install(&mut self, code: InstallCode) -> Shown {
         let before = *self.device.record();
         let number = number_of(&self.device.install_finished(code));
-        let changed = changes(&before, self.device.record(), &DEVICE_FIELDS);
+        self.device_changed(number, &before)
+    }
+
+    fn device_changed(&self, number: u8, before: &[u8]) -> Shown {
+        let changed = changes(before, self.device.record(), &DEVICE_FIELDS);
         self.device_shown(number, changed_line(changed).into_iter().collect())
     }
 
@@ -369,8 +384,8 @@ fn carry_out(manual: &str) -> Result<usize, String> {
 /// out.
 fn constants(header: &str) -> BTreeMap<&str, String> {
     let mut constants: BTreeMap<&str, String> = BTreeMap::new();
-    for line in header.lines().filter(|line| line.trim().starts_with("PCP_")) {
-        let Some((name, rest)) = line.trim().split_once(" = ") else { continue };
+    let lines = header.lines().map(str::trim).filter(|line| line.starts_with("PCP_"));
+    for (name, rest) in lines.filter_map(|line| line.split_once(" = ")) {
         let value = rest.split([',', '/']).next().unwrap_or(rest).trim();
         let summed = value.split_once(" + ").and_then(|(earlier, more)| {
             Some(value_in(constants.get(earlier)?)? + value_in(more)?).map(|sum| sum.to_string())
@@ -421,6 +436,7 @@ fn wrapped() -> BTreeMap<String, usize> {
         ("PCP_DEVICE_REPLY", DEVICE_REPLY),
         ("PCP_GATEWAY_REPLY", GATEWAY_REPLY),
         ("PCP_VERSION_LENGTH", VERSION_LENGTH),
+        ("PCP_DIGEST_LENGTH", DIGEST_LENGTH),
     ];
     let values = [
         values::<Refusal>("PCP_"),

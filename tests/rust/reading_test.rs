@@ -3,10 +3,13 @@
 mod reading;
 mod support;
 
+use reading::boundary::{Boundary, Reading};
 use reading::capture::{mend, write, Item, Mended, Reader};
 use reading::check::{check, message_check, step, TABLE};
 use reading::device::{self, Device, BUSY, INTERNAL, LOW_POWER, READY, WEAK_SIGNAL};
 use reading::gateway::{self, cut, Gateway};
+use reading::layout::{read_device, read_state, write_device, write_state, MD5_STATE};
+use reading::md5::{md5, State};
 use reading::message::{
     encode, recognise, set_check, Announcement, Facts, ToDevice, ToGateway, BOTH_FACTS, DEVICE_ROOM,
     GATEWAY_ROOM,
@@ -110,6 +113,36 @@ fn check_rule(tally: &mut Tally) {
         changed[place + 1] ^= 0xC3;
         tally.same("two neighbouring bytes", message_check(&changed), 0x3AE6);
     }
+}
+
+/// The test suite of RFC 1321 (A.5), whole and byte by byte, with the state in bytes between them.
+fn digest_suite(tally: &mut Tally) {
+    for (text, digest) in [
+        ("", "D41D8CD98F00B204E9800998ECF8427E"),
+        ("a", "0CC175B9C0F1B6A831C399E269772661"),
+        ("abc", "900150983CD24FB0D6963F7D28E17F72"),
+        ("message digest", "F96B697D7CB7938D525A2F31AAF161D0"),
+        ("abcdefghijklmnopqrstuvwxyz", "C3FCD3D76192E4007DFB496CCA67E13B"),
+        (
+            "ABCDEFGHIJKLMNOPQRSTUVWXYZabcdefghijklmnopqrstuvwxyz0123456789",
+            "D174AB98D277D9F5A5611C2C9F419D9F",
+        ),
+        (&"1234567890".repeat(8), "57EDF4A22BE3C955AC49DA2E2107B67A"),
+    ] {
+        tally.same(text, hex(&md5(text.as_bytes())), digest.to_string());
+        let mut buffer = [0; MD5_STATE];
+        write_state(&State::new(), &mut buffer);
+        for byte in text.bytes() {
+            let mut state = read_state(&buffer).expect("the buffer is long enough");
+            state.feed(&[byte]);
+            write_state(&state, &mut buffer);
+        }
+        let state = read_state(&buffer).expect("the buffer is long enough");
+        tally.same(text, (hex(&state.finish()), state.count), (digest.to_string(), text.len() as u64));
+    }
+    let mut start = [0x55; MD5_STATE];
+    write_state(&State::new(), &mut start);
+    tally.same("the words at the start", hex(&start[..16]), "67452301EFCDAB8998BADCFE10325476".to_string());
 }
 
 /// Source 000's misprint, and the order of the tests.
@@ -517,13 +550,188 @@ fn order(tally: &mut Tally) {
     tally.same("asking, image too short", full.next_message().number, 14);
 }
 
+/// A package of two fragments, 32 bytes and 18, with its MD5 as md5sum prints it; and that of the 64 bytes which two whole
+/// fragments would be, the last of them filled up as the image is.
+const FIFTY: &[u8] = b"Fifty bytes in two fragments: 32 of them, then 18.";
+const FIFTY_DIGEST: [u8; 16] =
+    [0x1D, 0xF7, 0xC5, 0x2D, 0x76, 0xF8, 0x93, 0xF5, 0x40, 0x0B, 0xE2, 0x95, 0x0E, 0xAE, 0x05, 0x8D];
+const FILLED_DIGEST: [u8; 16] =
+    [0x0F, 0x4F, 0xAB, 0xBB, 0x4A, 0x0D, 0x60, 0x82, 0x8D, 0x06, 0xD0, 0x38, 0xB9, 0xCD, 0xE7, 0x37];
+/// Its check.
+const FIFTY_CODE: u16 = 0xE7C6;
+
+/// The bytes 00, 01, 02 and so on about the places where the padding needs a block more, as md5sum has them.
+fn digest_lengths(tally: &mut Tally) {
+    let counted: Vec<u8> = (0..=255).collect();
+    for (length, digest) in [
+        (55, "6912ee65fff2d9f9ce2508cddf8bcda0"),
+        (56, "51fdd1acda72405dfdfa03fcb85896d7"),
+        (63, "48a6295221902e8e0938f773a7185e72"),
+        (64, "b2d3f56bc197fd985d5965079b5e7148"),
+        (65, "8bd7053801c768420faf816fadba971c"),
+        (119, "1c772251899a7ff007400b888d6b2042"),
+        (120, "b7ba1efc6022e9ed272f00b8831e26e6"),
+        (256, "e2c865db4162bed963bfaa9ef6ac18f0"),
+    ] {
+        tally.same(&format!("{length} bytes"), md5(&counted[..length]).to_vec(), bytes(digest));
+    }
+    tally.same("fifty bytes", md5(FIFTY), FIFTY_DIGEST);
+    tally.same("filled up", md5(&[FIFTY, &[0xEE; 14]].concat()), FILLED_DIGEST);
+}
+
+/// A device to which the fifty bytes are announced, in Loading with none stored.
+fn fifty_announced(code: u16) -> Bench {
+    let mut bench = Bench::new(64, 1);
+    bench.receive(&announce(version("V1.0"), 32, 2, code));
+    bench
+}
+
+/// Whether a digest is set, and which.
+fn set(bench: &Bench) -> (u8, [u8; 16]) {
+    (bench.device.digest_set, bench.device.digest)
+}
+
+const NONE: (u8, [u8; 16]) = (0, [0; 16]);
+const GIVEN: (u8, [u8; 16]) = (1, FIFTY_DIGEST);
+
+/// 02, 2026-05: when a digest is taken, and how long it stays. (29 is among the broken records.)
+fn digests_given(tally: &mut Tally) {
+    tally.same("a fresh record", set(&Bench::new(64, 1)), NONE);
+    for phase in device::IDLE..=device::REPORTING {
+        let mut bench = in_phase(phase);
+        let before = bench.device.clone();
+        let loading = phase == device::LOADING;
+        tally.same("given", bench.device.give_digest(FIFTY_DIGEST), if loading { 0 } else { 9 });
+        let expected =
+            if loading { Device { digest_set: 1, digest: FIFTY_DIGEST, ..before } } else { before };
+        tally.same("and nothing else", bench.device, expected);
+    }
+    let mut bench = fifty_announced(7);
+    tally.same("given", bench.device.give_digest(FILLED_DIGEST), 0);
+    tally.same("given again", (bench.device.give_digest([0; 16]), set(&bench)), (0, (1, [0; 16])));
+    tally.same("and again", (bench.device.give_digest(FIFTY_DIGEST), set(&bench)), (0, GIVEN));
+    // What keeps it: all that does not begin a download.
+    let resume = announce(version("V1.0"), 32, 2, 7);
+    for message in [query(), resume.clone(), no_fragment(0x81, 0), fragment(0, &FIFTY[..32]), execute()] {
+        tally.same("kept in Loading", (bench.step(&message), set(&bench)), ((0, 1), GIVEN));
+    }
+    let other = announce(version("V1.0"), 32, 2, 8);
+    tally.same("kept while busy", (result(&bench.receive_in(BUSY, &other)), set(&bench)), (0x01, GIVEN));
+    tally.same("kept by a refusal", (bench.step(&fragment(0, &[1; 5])), set(&bench)), ((11, 1), GIVEN));
+    let mut given_up = bench.clone();
+    tally.same("kept by 80", (given_up.step(&no_fragment(0x80, 0)), set(&given_up)), ((0, 0), GIVEN));
+    let mut differs = bench.clone();
+    let repeat = fragment(0, &[1; 32]);
+    tally.same("kept by a differing repeat", (differs.step(&repeat), set(&differs)), ((23, 4), GIVEN));
+    // What clears it: a fresh announcement, in whatever phase it comes.
+    for (code, size) in [(8, 32), (0, 32), (7, 33)] {
+        let mut afresh = bench.clone();
+        afresh.image.resize(80, 0xEE);
+        let offer = announce(version("V1.0"), size, 2, code);
+        tally.same("cleared", (afresh.step(&offer), set(&afresh)), ((0, 1), NONE));
+    }
+    for phase in [device::IDLE, device::LOADED, device::ACKED, device::FAILED] {
+        let mut bench = in_phase(phase);
+        (bench.device.digest_set, bench.device.digest) = GIVEN;
+        let resumed = bench.device.held();
+        let kept = (bench.step(&announce(version("V1.0"), 32, 1, 9)), set(&bench));
+        tally.same("cleared by another", kept, ((0, 1), NONE));
+        // The same with a code is a resume in Loaded and Acked, and keeps phase and digest.
+        let mut bench = in_phase(phase);
+        (bench.device.digest_set, bench.device.digest) = GIVEN;
+        bench.device.code = 9;
+        let resumes = [device::LOADED, device::ACKED].contains(&phase);
+        let offer = announce(resumed.version, resumed.size, resumed.total, 9);
+        let expected = if resumes { ((0, phase), GIVEN) } else { ((0, 1), NONE) };
+        tally.same("the same again", (bench.step(&offer), set(&bench)), expected);
+    }
+}
+
+/// 02, 2026-05: at completion the code, if it is not 0, and the digest, if one is set, must both be those of the bytes.
+fn digests_tested(tally: &mut Tally) {
+    let mut almost = FIFTY_DIGEST;
+    almost[15] ^= 0x01;
+    let mut from_the_first = FIFTY_DIGEST;
+    from_the_first[0] ^= 0x80;
+    for (code, flag, digest, phase) in [
+        (FIFTY_CODE, 0, [0; 16], 2),
+        (FIFTY_CODE, 1, FIFTY_DIGEST, 2),
+        (0, 1, FIFTY_DIGEST, 2),
+        // The one does not stand for the other.
+        (FIFTY_CODE ^ 1, 1, FIFTY_DIGEST, 4),
+        (FIFTY_CODE, 1, almost, 4),
+        (0, 1, almost, 4),
+        (0, 1, from_the_first, 4),
+        // The true length, not that of whole fragments.
+        (FIFTY_CODE, 1, FILLED_DIGEST, 4),
+        (0, 1, FILLED_DIGEST, 4),
+        // The flag says whether there is one: zeros can be one, and other bytes none.
+        (FIFTY_CODE, 1, [0; 16], 4),
+        (0, 1, [0; 16], 4),
+        (FIFTY_CODE, 0, almost, 2),
+        (0, 0, almost, 2),
+    ] {
+        for order in [[0, 1], [1, 0]] {
+            let mut bench = fifty_announced(code);
+            (bench.device.digest_set, bench.device.digest) = (flag, digest);
+            let first = fragment(order[0], cut(FIFTY, 32, order[0]));
+            tally.same("one is missing", (bench.step(&first), set(&bench)), ((0, 1), (flag, digest)));
+            let second = fragment(order[1], cut(FIFTY, 32, order[1]));
+            tally.same("completed", (bench.step(&second), set(&bench)), ((0, phase), (flag, digest)));
+        }
+    }
+    // Given between the fragments, it counts; a fresh announcement takes it back.
+    let mut bench = fifty_announced(FIFTY_CODE);
+    bench.step(&fragment(1, &FIFTY[32..]));
+    tally.same("given late", bench.device.give_digest(almost), 0);
+    let mut failed = bench.clone();
+    tally.same("failed", failed.step(&fragment(0, &FIFTY[..32])), (0, 4));
+    tally.same("and reported", result(&failed.next_message()), 0x07);
+    tally.same("too late", failed.device.give_digest(FIFTY_DIGEST), 9);
+    tally.same("mended", bench.device.give_digest(FIFTY_DIGEST), 0);
+    tally.same("loaded", bench.step(&fragment(0, &FIFTY[..32])), (0, 2));
+    tally.same("fetched again", failed.step(&announce(version("V1.0"), 32, 2, FIFTY_CODE)), (0, 1));
+    failed.step(&fragment(1, &FIFTY[32..]));
+    tally.same("with none", failed.step(&fragment(0, &FIFTY[..32])), (0, 2));
+}
+
+/// The digest through bytes: 61 of them, the flag at 44, the digest from 45 on; 64 for one of another length, and before 29.
+fn digests_in_bytes(tally: &mut Tally) {
+    let mut bench = fifty_announced(7);
+    let mut record = [0x77; 64];
+    write_device(&bench.device, &mut record);
+    let before = record;
+    for (length, number) in [(16, 0), (0, 64), (1, 64), (15, 64), (17, 64), (32, 64)] {
+        for room in [60, 61, 64] {
+            let mut lent = before;
+            let digest = [&FIFTY_DIGEST[..], &FIFTY_DIGEST].concat();
+            let given = Reading.device_give_digest(&mut lent[..room], &digest[..length]);
+            tally.same("given in bytes", given, if room < 61 { 64 } else { number });
+            let mut expected = before;
+            if given == 0 {
+                expected[44] = 1;
+                expected[45..61].copy_from_slice(&FIFTY_DIGEST);
+            }
+            tally.same("the bytes", lent, expected);
+        }
+    }
+    bench.device.give_digest(FIFTY_DIGEST);
+    write_device(&bench.device, &mut record);
+    tally.same("the record", read_device(&record), Ok(bench.device.clone()));
+    record[44] = 2;
+    tally.same("29", Reading.device_give_digest(&mut record, &FIFTY_DIGEST), 29);
+    tally.same("64 before 29", Reading.device_give_digest(&mut record, &FIFTY_DIGEST[1..]), 64);
+}
+
 type Damage = (&'static str, fn(&mut Device));
 
 /// Each field of the record out of its range.
 fn broken_records(tally: &mut Tally) {
-    let always: [Damage; 4] = [
+    let always: [Damage; 6] = [
         ("phase", |device| device.phase = 7),
         ("kept code", |device| device.outcome = 0x02),
+        ("whether a digest is set", |device| device.digest_set = 2),
+        ("whether a digest is set", |device| device.digest_set = 0xFF),
         ("running", |device| device.running = [0; 16]),
         ("target", |device| device.version[0] = 0x1F),
     ];
@@ -546,6 +754,9 @@ fn broken_records(tally: &mut Tally) {
             let mut bench = sound.clone();
             damage(&mut bench.device);
             tally.same(field, bench.receive(&query()).number, number);
+            // A digest: 29 comes before 9.
+            let given = bench.device.give_digest(FIFTY_DIGEST);
+            tally.same(field, given, if number == 0 { 9 } else { number });
         }
     }
     let mut counted = loaded();
@@ -568,6 +779,8 @@ fn any_bench(random: &mut Random) -> Bench {
         stored: random.below(usize::from(total) + 2) as u16,
         last: random.below(usize::from(size) + 2) as u16,
         outcome: random.pick(&[0x00, 0x0A, 0x02]),
+        digest_set: random.pick(&[0, 1, 2]),
+        digest: random.pick(&[[0; 16], FIFTY_DIGEST]),
     };
     let (image, map) = (random.below(5_000), random.below(4));
     Bench { device, image: random.bytes(image), map: random.bytes(map) }
@@ -594,9 +807,10 @@ fn refusal_changes(random: &mut Random) -> bool {
     let mut bench = any_bench(random);
     let before = bench.clone();
     let room = random.pick(&[25, 26, 26, 26]);
-    let answer = match random.below(4) {
+    let answer = match random.below(5) {
         0 => bench.device.next_message(&bench.image, &bench.map, room),
         1 => Answer { number: bench.device.install_finished(random.pick(&[0, 2, 10])), reply: Vec::new() },
+        2 => Answer { number: bench.device.give_digest([0x5A; 16]), reply: Vec::new() },
         _ => {
             let condition = random.pick(&[0, 0, 0, 1, 2, 3, 4, 127]);
             let message = any_message(random);
@@ -885,6 +1099,7 @@ fn replays(tally: &mut Tally) {
 fn main() {
     let mut tally = Tally::default();
     check_rule(&mut tally);
+    digest_suite(&mut tally);
     published_messages(&mut tally);
     recognition(&mut tally);
     bad_data(&mut tally);
@@ -896,6 +1111,10 @@ fn main() {
     phases(&mut tally);
     order(&mut tally);
     broken_records(&mut tally);
+    digest_lengths(&mut tally);
+    digests_given(&mut tally);
+    digests_tested(&mut tally);
+    digests_in_bytes(&mut tally);
     refusals(&mut tally);
     gateway_steps(&mut tally);
     gateway_refusals(&mut tally);

@@ -1,11 +1,15 @@
 //! Writes the sample captures and what the replay program prints for them into a folder; of one that is damaged in several
-//! places also what the mend program writes, and tells.
+//! places also what the mend program writes, and tells; of one whose download is damaged also the package, its MD5 as md5sum
+//! prints it, and what a device answers to which that digest was given.
 
 mod reading;
 mod support;
 
-use reading::capture::mend;
-use reading::replay::replay;
+use reading::capture::{mend, Item, Reader};
+use reading::device::READY;
+use reading::md5::md5;
+use reading::message::{ANNOUNCE, BOTH_FACTS, DEVICE_ROOM};
+use reading::replay::{hex, replay, run, Replay};
 use std::path::Path;
 use std::{env, fs, io, process};
 use support::captures::{self, SAMPLE_SEED};
@@ -25,7 +29,8 @@ fn samples() -> [(&'static str, Vec<u8>); 8] {
 
 fn write_samples(folder: &Path) -> io::Result<()> {
     fs::create_dir_all(folder)?;
-    let write = |name: &str, kind: &str, bytes: &[u8]| fs::write(folder.join(format!("{name}.{kind}")), bytes);
+    let write =
+        |name: &str, kind: &str, bytes: &[u8]| fs::write(folder.join(format!("{name}.{kind}")), bytes);
     for (name, capture) in samples() {
         write(name, "capture", &capture)?;
         write(name, "expected", replay(&capture).as_bytes())?;
@@ -35,7 +40,35 @@ fn write_samples(folder: &Path) -> io::Result<()> {
     write(name, "capture", &capture)?;
     write(name, "expected", replay(&capture).as_bytes())?;
     write(name, "mended", &mended)?;
-    write(name, "told", told.as_bytes())
+    write(name, "told", told.as_bytes())?;
+    let (name, (package, capture)) = ("unseen-damage", captures::unseen_damage());
+    let digest = md5(&package);
+    write(name, "package", &package)?;
+    write(name, "md5", format!("{}  {name}.package\n", hex(&digest).to_lowercase()).as_bytes())?;
+    write(name, "capture", &capture)?;
+    write(name, "expected", replay(&capture).as_bytes())?;
+    write(name, "failed", replay_with(digest, &capture).as_bytes())
+}
+
+/// What replay would print if its host knew the package's digest, and gave it when a download has begun.
+fn replay_with(digest: [u8; 16], capture: &[u8]) -> String {
+    let Replay { mut device, mut image, mut map, mut text } = run(&[]);
+    let mut reader = Reader::new(capture);
+    for place in 0.. {
+        let message = match reader.next_record() {
+            Item::Record { toward_device: true, message } => message,
+            Item::Record { .. } => continue,
+            _ => break,
+        };
+        let before = device.clone();
+        let answer = device.receive(message, BOTH_FACTS, READY, &mut image, &mut map, DEVICE_ROOM);
+        let reply = if answer.reply.is_empty() { "-".to_string() } else { hex(&answer.reply) };
+        text += &format!("{place} {} {} {reply}\n", answer.number, device.phase);
+        if message[3] == ANNOUNCE && device != before {
+            assert_eq!(device.give_digest(digest), 0, "a download has begun");
+        }
+    }
+    text
 }
 
 fn main() {

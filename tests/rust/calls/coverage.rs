@@ -8,7 +8,7 @@ use super::Call;
 use crate::reading::check::message_check;
 use crate::reading::device::{Device, ACKED, FAILED, IDLE, INSTALLING, LOADED, LOADING, REPORTING};
 use crate::reading::gateway::{Gateway, ASK, ENDED, OFFER, RUN, SERVE};
-use crate::reading::layout::SHORT_RECORD;
+use crate::reading::layout::{read_state, SHORT_RECORD};
 use crate::reading::message::{
     ANNOUNCE, ANNOUNCE_ANSWERS, DOWNLOAD_RESULT, EXECUTE, FRAGMENT, GATEWAY_ROOM, HEADER, QUERY, SIZES,
     UPGRADE_RESULT, UPGRADE_RESULTS,
@@ -28,9 +28,20 @@ const DEVICE_NEW: &str = "device new";
 const DEVICE_RECEIVE: &str = "device receive";
 const DEVICE_NEXT: &str = "device next message";
 const DEVICE_INSTALL: &str = "device install finished";
+const DEVICE_DIGEST: &str = "device give digest";
 const GATEWAY_START: &str = "gateway start";
 const GATEWAY_RECEIVE: &str = "gateway receive";
 const GATEWAY_NEXT: &str = "gateway next message";
+const MD5_NEW: &str = "md5 new";
+/// The same, and where they were handled, by how many bytes behind whole blocks are digested or wait in the state.
+const MD5: &str = "md5";
+const MD5_FEED: &str = "md5 feed";
+const MD5_FINISH: &str = "md5 finish";
+/// Pieces: 0 none, 1 leaves the block open, 2 makes it whole, 3 goes on behind it, 4 has a whole block behind it; and
+/// whether bytes waited.
+const PIECE: &str = "piece";
+/// Counts that a piece brought past an edge: 0 past 2^32, 1 past 2^64.
+const COUNT_PASSED: &str = "count of bytes passed";
 /// What is sent, by code and first data byte.
 const DEVICE_REPLY: &str = "device reply";
 const DEVICE_MESSAGE: &str = "device message";
@@ -66,6 +77,12 @@ const STARTED: &str = "device started a download";
 /// Downloads whose fragments are all stored: whether there is a code, and whether the last fragment is short.
 const LOADED_WITH: &str = "device loaded";
 const FAILED_WITH: &str = "device failed";
+/// The same with a digest set.
+const LOADED_WITH_DIGEST: &str = "device loaded with a digest";
+const FAILED_WITH_DIGEST: &str = "device failed with a digest";
+/// Digests given, by whether one was set before; and resumes that kept one.
+const DIGEST_GIVEN: &str = "device was given a digest";
+const DIGEST_RESUMED: &str = "device resumed with a digest";
 /// Asking in Loading with no fragment missing.
 const FULL_MAP: &str = "device asked with a full map";
 
@@ -142,6 +159,12 @@ impl Coverage {
                     self.count_device_step(&before.device, &after.device);
                 }
             }
+            Call::DeviceGiveDigest => {
+                self.count((DEVICE_DIGEST, number, before.device.phase));
+                if counts_steps {
+                    self.count((DIGEST_GIVEN, before.device.digest_set, 0));
+                }
+            }
             Call::GatewayReceive { .. } => {
                 self.count((GATEWAY_RECEIVE, number, 0));
                 self.count_version_byte(RESERVED_AT_GATEWAY, number, &made.before.input);
@@ -157,6 +180,30 @@ impl Coverage {
                 self.count_buffer(made.lent.reply, number);
                 sent(GATEWAY_MESSAGE).into_iter().for_each(|event| self.count(event));
             }
+            Call::Md5New => self.count((MD5_NEW, number, 0)),
+            Call::Md5 => self.count_digest(MD5, number, made.before.input.len() as u64),
+            Call::Md5Finish => self.count_digest(MD5_FINISH, number, counted(&made.before.state)),
+            Call::Md5Feed => {
+                let (before, after) = (counted(&made.before.state), counted(&made.after.state));
+                self.count_digest(MD5_FEED, number, before);
+                if number == number::HANDLED {
+                    let kind = piece_kind(before, made.before.input.len());
+                    self.count((PIECE, kind, u8::from(before % 64 > 0)));
+                    self.count_passed(before, after);
+                }
+            }
+        }
+    }
+
+    fn count_digest(&mut self, kind: &'static str, number: u8, bytes: u64) {
+        self.count((kind, number, if number == number::HANDLED { (bytes % 64) as u8 } else { 0 }));
+    }
+
+    fn count_passed(&mut self, before: u64, after: u64) {
+        if after < before {
+            self.count((COUNT_PASSED, 1, 0));
+        } else if before >> 32 != after >> 32 {
+            self.count((COUNT_PASSED, 0, 0));
         }
     }
 
@@ -200,6 +247,8 @@ impl Coverage {
         }
         let (coded, short) = (u8::from(after.code != 0), u8::from(after.last < after.size));
         match (before.phase, after.phase) {
+            (LOADING, LOADED) if after.digest_set == 1 => self.count((LOADED_WITH_DIGEST, coded, short)),
+            (LOADING, FAILED) if after.digest_set == 1 => self.count((FAILED_WITH_DIGEST, coded, short)),
             (LOADING, LOADED) => self.count((LOADED_WITH, coded, short)),
             (LOADING, FAILED) => self.count((FAILED_WITH, coded, short)),
             _ => {}
@@ -210,6 +259,9 @@ impl Coverage {
         if reply.get(3) == Some(&ANNOUNCE) && result == 0x00 {
             let is_resumed = before == after && before.stored > 0;
             self.count((if is_resumed { RESUMED } else { STARTED }, before.phase, 0));
+            if is_resumed && before.digest_set == 1 {
+                self.count((DIGEST_RESUMED, before.phase, 0));
+            }
         }
     }
 
@@ -259,6 +311,23 @@ fn repeat_kind(device: &Device, image: &[u8], message: &[u8]) -> u8 {
     }
 }
 
+/// How many bytes a state says that it was fed.
+fn counted(state: &[u8]) -> u64 {
+    read_state(state).expect("the buffer is long enough").count
+}
+
+/// What a piece does to the block of a state that was fed so many bytes.
+fn piece_kind(count: u64, length: usize) -> u8 {
+    let left = 64 - (count % 64) as usize;
+    match length.checked_sub(left) {
+        _ if length == 0 => 0,
+        None => 1,
+        Some(0) => 2,
+        Some(1..=63) => 3,
+        Some(_) => 4,
+    }
+}
+
 /// The size in an announcement.
 fn announced_size(message: &[u8]) -> Option<u16> {
     let size = message.get(HEADER + 16..HEADER + 18)?;
@@ -284,6 +353,7 @@ fn wanted() -> BTreeSet<Event> {
     events.extend(wanted_messages());
     events.extend(wanted_steps());
     events.extend(wanted_sendings());
+    events.extend(wanted_digests());
     events
 }
 
@@ -305,11 +375,29 @@ fn wanted_numbers() -> Vec<Event> {
         ),
         one_each(DEVICE_NEXT, &[0, 9, 14, 15, 29, SHORT_RECORD]),
         one_each(DEVICE_INSTALL, &[0, 9, 16, 29, SHORT_RECORD]),
+        with_each(DEVICE_DIGEST, 0, &[LOADING]),
+        with_each(DEVICE_DIGEST, 9, &[IDLE, LOADED, ACKED, FAILED, INSTALLING, REPORTING]),
+        with_each(DEVICE_DIGEST, SHORT_RECORD, &[LOADING]),
         one_each(GATEWAY_START, &[0, 17, 18, 19, SHORT_RECORD]),
         one_each(GATEWAY_RECEIVE, &[0, 1, 2, 3, 4, 5, 6, 7, 8, 9, 14, 15, 29, SHORT_RECORD]),
         one_each(GATEWAY_NEXT, &[0, 9, 14, 15, 29, SHORT_RECORD]),
     ]
     .concat()
+}
+
+/// Each number of bytes behind whole blocks, which decides where the padding lies; and every kind of piece.
+fn wanted_digests() -> Vec<Event> {
+    let places: Vec<u8> = (0..64).collect();
+    let mut events = one_each(MD5_NEW, &[0, SHORT_RECORD]);
+    for kind in [MD5, MD5_FEED, MD5_FINISH] {
+        events.extend(with_each(kind, 0, &places));
+        events.push((kind, SHORT_RECORD, 0));
+    }
+    for kind in 0..=4 {
+        events.extend(with_each(PIECE, kind, &[0, 1]));
+    }
+    events.extend(one_each(COUNT_PASSED, &[0, 1]));
+    events
 }
 
 /// Every reserved bit pattern, taken and with a wrong check; and bad version bytes, with a right and a wrong check.
@@ -410,6 +498,12 @@ fn wanted_steps() -> Vec<Event> {
         with_each(LOADED_WITH, 0, &[0, 1]),
         with_each(LOADED_WITH, 1, &[0, 1]),
         with_each(FAILED_WITH, 1, &[0, 1]),
+        with_each(LOADED_WITH_DIGEST, 0, &[0, 1]),
+        with_each(LOADED_WITH_DIGEST, 1, &[0, 1]),
+        with_each(FAILED_WITH_DIGEST, 0, &[0, 1]),
+        with_each(FAILED_WITH_DIGEST, 1, &[0, 1]),
+        one_each(DIGEST_GIVEN, &[0, 1]),
+        one_each(DIGEST_RESUMED, &[LOADING, LOADED, ACKED]),
     ]
     .concat()
 }

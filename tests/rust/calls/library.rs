@@ -49,6 +49,10 @@ impl Boundary for Library {
         raw::device_install_finished(record, code)
     }
 
+    fn device_give_digest(&self, record: &mut [u8], digest: &[u8]) -> u8 {
+        raw::device_give_digest(record, digest)
+    }
+
     fn gateway_start(&self, record: &mut [u8], version: &[u8], size: u16, package: &[u8], checked: u8) -> u8 {
         raw::gateway_start(record, version, size, package, checked)
     }
@@ -66,5 +70,21 @@ impl Boundary for Library {
 
     fn gateway_next_message(&self, record: &[u8], package: &[u8], reply: &mut [u8]) -> u32 {
         packed(raw::gateway_next_message(record, package, reply))
+    }
+
+    fn md5(&self, bytes: &[u8], digest: &mut [u8]) -> u8 {
+        raw::md5(bytes, digest)
+    }
+
+    fn md5_new(&self, state: &mut [u8]) -> u8 {
+        raw::md5_new(state)
+    }
+
+    fn md5_feed(&self, state: &mut [u8], piece: &[u8]) -> u8 {
+        raw::md5_feed(state, piece)
+    }
+
+    fn md5_finish(&self, state: &[u8], digest: &mut [u8]) -> u8 {
+        raw::md5_finish(state, digest)
     }
 }

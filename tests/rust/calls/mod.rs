@@ -16,18 +16,21 @@ use crate::reading::boundary::Boundary;
 /// Every byte that a host lends, at both ends.
 #[derive(Clone, Debug, Default, PartialEq, Eq)]
 pub struct Memory {
-    /// What the call is given: a message, a version text, or bytes to be checked.
+    /// What the call is given: a message, a version text, a digest, or bytes to be checked or digested.
     pub input: Vec<u8>,
     pub device: Vec<u8>,
     pub image: Vec<u8>,
     pub map: Vec<u8>,
     pub gateway: Vec<u8>,
     pub package: Vec<u8>,
+    /// MD5's.
+    pub state: Vec<u8>,
+    /// Also for a digest.
     pub reply: Vec<u8>,
 }
 
 impl Memory {
-    pub fn buffers(&self) -> [(&'static str, &[u8]); 7] {
+    pub fn buffers(&self) -> [(&'static str, &[u8]); 8] {
         [
             ("input", &self.input),
             ("device", &self.device),
@@ -35,6 +38,7 @@ impl Memory {
             ("map", &self.map),
             ("gateway", &self.gateway),
             ("package", &self.package),
+            ("state", &self.state),
             ("reply", &self.reply),
         ]
     }
@@ -47,6 +51,7 @@ impl Memory {
         self.map.clone_from(&other.map);
         self.gateway.clone_from(&other.gateway);
         self.package.clone_from(&other.package);
+        self.state.clone_from(&other.state);
         self.reply.clone_from(&other.reply);
     }
 }
@@ -54,6 +59,7 @@ impl Memory {
 /// How many bytes of each buffer are lent. The input is always lent whole.
 #[derive(Clone, Copy, Debug, PartialEq, Eq)]
 pub struct Lent {
+    /// Of the end's record, or of MD5's state.
     pub record: usize,
     pub image: usize,
     pub map: usize,
@@ -71,14 +77,23 @@ pub enum Call {
     DeviceReceive { facts: [u8; 2], condition: u8 },
     DeviceNextMessage,
     DeviceInstallFinished { code: u8 },
+    DeviceGiveDigest,
     GatewayStart { size: u16, checked: u8 },
     GatewayReceive { facts: [u8; 2] },
     GatewayNextMessage,
+    Md5,
+    Md5New,
+    Md5Feed,
+    Md5Finish,
 }
 
 impl Call {
     pub fn is_at_gateway(&self) -> bool {
         matches!(self, Call::GatewayStart { .. } | Call::GatewayReceive { .. } | Call::GatewayNextMessage)
+    }
+
+    pub fn is_of_md5(&self) -> bool {
+        matches!(self, Call::Md5 | Call::Md5New | Call::Md5Feed | Call::Md5Finish)
     }
 
     pub fn has_reply(&self) -> bool {
@@ -93,7 +108,13 @@ impl Call {
 
     /// Makes the call. A result of fewer bits is widened.
     pub fn make(&self, boundary: &impl Boundary, lent: &Lent, memory: &mut Memory) -> u32 {
-        let record = if self.is_at_gateway() { &mut memory.gateway } else { &mut memory.device };
+        let record = if self.is_at_gateway() {
+            &mut memory.gateway
+        } else if self.is_of_md5() {
+            &mut memory.state
+        } else {
+            &mut memory.device
+        };
         let record = &mut record[..lent.record];
         let input = &memory.input[..];
         let image = &mut memory.image[..lent.image];
@@ -110,11 +131,16 @@ impl Call {
             }
             Call::DeviceNextMessage => boundary.device_next_message(record, image, map, reply),
             Call::DeviceInstallFinished { code } => boundary.device_install_finished(record, code).into(),
+            Call::DeviceGiveDigest => boundary.device_give_digest(record, input).into(),
             Call::GatewayStart { size, checked } => {
                 boundary.gateway_start(record, input, size, package, checked).into()
             }
             Call::GatewayReceive { facts } => boundary.gateway_receive(record, facts, input, package, reply),
             Call::GatewayNextMessage => boundary.gateway_next_message(record, package, reply),
+            Call::Md5 => boundary.md5(input, reply).into(),
+            Call::Md5New => boundary.md5_new(record).into(),
+            Call::Md5Feed => boundary.md5_feed(record, input).into(),
+            Call::Md5Finish => boundary.md5_finish(record, reply).into(),
         }
     }
 }

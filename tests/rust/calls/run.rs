@@ -1,5 +1,5 @@
-//! One random run: calls at both ends and at the three functions without state, mostly such as bring an upgrade on.
-//! What is drawn decides everything, so that a seed, or given bytes, repeat a run.
+//! One random run: calls at both ends, at the three functions without state and at MD5's, mostly such as bring an upgrade
+//! on. What is drawn decides everything, so that a seed, or given bytes, repeat a run.
 
 use super::messages::{
     any_to_device, any_to_gateway, filler, near, next_to_device, next_to_gateway, some_version, SIZE_EDGES,
@@ -9,8 +9,10 @@ use super::{Call, Lent, Memory};
 use crate::reading::device::{Device, CONDITIONS, INSTALLING, LOADING, READY, REPORTING};
 use crate::reading::gateway::{fragments, Gateway, ENDED};
 use crate::reading::layout::{
-    read_device, read_gateway, write_device, DEVICE_FIELDS, DEVICE_RECORD, GATEWAY_FIELDS, GATEWAY_RECORD,
+    read_device, read_gateway, read_state, write_device, write_state, DEVICE_FIELDS, DEVICE_RECORD,
+    GATEWAY_FIELDS, GATEWAY_RECORD, MD5_STATE,
 };
+use crate::reading::md5::md5;
 use crate::reading::message::{rounded_up, DEVICE_ROOM, GATEWAY_ROOM, SIZES, UPGRADE_RESULTS};
 use crate::support::messages::{damaged, other_version_byte};
 use crate::support::random::Random;
@@ -20,6 +22,10 @@ use std::array;
 const REPLY: usize = GATEWAY_ROOM + 9;
 /// Messages that are on the air at most.
 const AIR: usize = 12;
+/// The bytes of a digest.
+const DIGEST: usize = 16;
+/// The longest piece that is digested.
+const LONGEST_PIECE: usize = 300;
 /// The smallest size's package of the most fragments, and what lies behind it.
 const LONGEST_PACKAGE: usize = 32 * 65_535;
 const BEHIND_PACKAGE: usize = 3;
@@ -119,6 +125,7 @@ impl Run {
             map: filler(&mut random, map),
             gateway: filler(&mut random, GATEWAY_RECORD + behind),
             package: filler(&mut random, package + BEHIND_PACKAGE),
+            state: filler(&mut random, MD5_STATE + behind),
             reply: vec![0; REPLY],
         };
         Run {
@@ -186,13 +193,16 @@ impl Run {
         match self.random.below(100) {
             0..=5 if gateway.phase == ENDED || gateway.version == device.running => self.gateway_start(),
             0..=9 if device.phase == INSTALLING => self.install_finished(),
+            0..=1 if device.phase == LOADING => self.give_digest(),
             0..=39 => self.device_receive(),
             40..=65 => self.gateway_receive(),
             66..=76 => Call::DeviceNextMessage,
             77..=85 => Call::GatewayNextMessage,
             86..=89 => self.install_finished(),
             90..=91 => self.gateway_start(),
+            93 => self.give_digest(),
             92 if self.random.once_in(3) => self.device_new(),
+            94..=96 => self.md5_call(),
             _ => self.without_state(),
         }
     }
@@ -204,6 +214,42 @@ impl Run {
             1 => Call::MessageCheck,
             _ => Call::Recognise { facts: self.facts() },
         }
+    }
+
+    /// Mostly a piece more. Now and then somebody else has written the state: any bytes are one.
+    fn md5_call(&mut self) -> Call {
+        if self.random.once_in(8) {
+            self.change_state();
+        }
+        self.memory.input = self.piece();
+        match self.random.below(8) {
+            0 => Call::Md5New,
+            1 | 2 => Call::Md5Finish,
+            3 | 4 => Call::Md5,
+            _ => Call::Md5Feed,
+        }
+    }
+
+    /// Other bytes, or a count at an edge.
+    fn change_state(&mut self) {
+        let (random, buffer) = (&mut self.random, &mut self.memory.state);
+        if random.once_in(2) {
+            *buffer = filler(random, buffer.len());
+        }
+        let mut state = read_state(buffer).expect("the buffer is long enough");
+        let edge = random.pick(&[0, 1 << 32, 1 << 61, u64::MAX]);
+        state.count = edge.wrapping_add(random.below(64) as u64).wrapping_sub(32);
+        write_state(&state, buffer);
+    }
+
+    /// Bytes that leave the state's block open, make it whole, or go beyond it.
+    fn piece(&mut self) -> Vec<u8> {
+        let state = read_state(&self.memory.state).expect("the buffer is long enough");
+        let random = &mut self.random;
+        let left = 64 - (state.count % 64) as usize;
+        let any = random.below(LONGEST_PIECE);
+        let length = random.pick(&[0, 1, left - 1, left, left + 1, left + 64, 64, any, any, any]);
+        filler(random, length)
     }
 
     fn device_new(&mut self) -> Call {
@@ -220,6 +266,20 @@ impl Run {
         let any = self.random.byte();
         let allowed = self.random.pick(&UPGRADE_RESULTS);
         Call::DeviceInstallFinished { code: self.random.pick(&[0x00, 0x00, 0x00, allowed, any]) }
+    }
+
+    /// That of the package, mostly; else another, zeros, or no digest at all.
+    fn give_digest(&mut self) -> Call {
+        let mut digest = md5(&self.memory.package[..self.package]).to_vec();
+        match self.random.below(8) {
+            0 => digest = vec![0; 16],
+            1 => digest[self.random.below(16)] ^= 1 << self.random.below(8),
+            2 => digest.truncate(self.random.below(16)),
+            3 => digest.push(0),
+            _ => {}
+        }
+        self.memory.input = digest;
+        Call::DeviceGiveDigest
     }
 
     /// Often on another build of the package, with the same version and size.
@@ -324,13 +384,16 @@ impl Run {
         let held = device.held();
         let (record, least_record, room) = if call.is_at_gateway() {
             (memory.gateway.len(), GATEWAY_RECORD, GATEWAY_ROOM)
+        } else if call.is_of_md5() {
+            (memory.state.len(), MD5_STATE, DIGEST)
         } else {
             (memory.device.len(), DEVICE_RECORD, DEVICE_ROOM)
         };
         let started = if matches!(call, Call::GatewayStart { .. }) { self.package } else { gateway.length };
         let package = started.min(memory.package.len());
         let random = &mut self.random;
-        let usual = [record, image, map, package, random.pick(&[REPLY, REPLY, room])];
+        let reply = if call.is_of_md5() { DIGEST } else { random.pick(&[REPLY, REPLY, room]) };
+        let usual = [record, image, map, package, reply];
         let least = [least_record, held.image_length(), held.map_length(), package, room];
         let most = [record, image, map, memory.package.len(), REPLY];
         let changed = match random.below(16) {

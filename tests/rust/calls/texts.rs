@@ -118,6 +118,7 @@ impl Carrier {
             map: vec![0xFF; 1],
             gateway: vec![0; GATEWAY_RECORD],
             package: vec![0x5A; PACKAGE],
+            state: Vec::new(),
             reply: vec![0x55; GATEWAY_ROOM],
         };
         write_device(&device, &mut memory.device);

@@ -1,10 +1,13 @@
-//! The same calls by the types for Rust hosts, `pcp::Device` and `pcp::Gateway`. What these cannot be given is left to the
-//! exports: a short record buffer, bytes that are no record, a condition or an installer's code that has no name.
+//! The same calls by the types for Rust hosts, `pcp::Device`, `pcp::Gateway` and `pcp::md5::Md5`. What these cannot be
+//! given is left to the exports: a short record buffer, bytes that are no record, a digest of another length, a condition
+//! or an installer's code that has no name.
 
 use super::library::Library;
 use crate::reading::boundary::Boundary;
+use pcp::md5::{self, Md5, STATE_LENGTH};
 use pcp::{
-    Condition, Device, DeviceAnswer, Facts, Gateway, InstallCode, Refusal, DEVICE_RECORD, GATEWAY_RECORD,
+    Condition, Device, DeviceAnswer, Facts, Gateway, InstallCode, Refusal, DEVICE_RECORD, DIGEST_LENGTH,
+    GATEWAY_RECORD,
 };
 
 /// The boundary as those types have it.
@@ -42,6 +45,11 @@ fn device_in(record: &[u8]) -> Option<Device> {
 fn gateway_in(record: &[u8]) -> Option<Gateway> {
     let record: [u8; GATEWAY_RECORD] = record.get(..GATEWAY_RECORD)?.try_into().ok()?;
     Gateway::from_record(record).ok()
+}
+
+fn state_in(state: &[u8]) -> Option<Md5> {
+    let state: [u8; STATE_LENGTH] = state.get(..STATE_LENGTH)?.try_into().ok()?;
+    Some(Md5::from_state(state))
 }
 
 fn keep(record: &[u8], buffer: &mut [u8]) {
@@ -124,6 +132,17 @@ impl Boundary for Wrapper {
         }
     }
 
+    fn device_give_digest(&self, record: &mut [u8], digest: &[u8]) -> u8 {
+        match (device_in(record), digest.try_into()) {
+            (Some(mut device), Ok(digest)) => {
+                let result = device.give_digest(digest);
+                keep(device.record(), record);
+                number_of(result)
+            }
+            _ => Library.device_give_digest(record, digest),
+        }
+    }
+
     fn gateway_start(&self, record: &mut [u8], version: &[u8], size: u16, package: &[u8], checked: u8) -> u8 {
         if record.len() < GATEWAY_RECORD {
             return Library.gateway_start(record, version, size, package, checked);
@@ -157,6 +176,42 @@ impl Boundary for Wrapper {
         match gateway_in(record) {
             Some(gateway) => packed_message(gateway.next_message(package, reply)),
             None => Library.gateway_next_message(record, package, reply),
+        }
+    }
+
+    fn md5(&self, bytes: &[u8], digest: &mut [u8]) -> u8 {
+        if digest.len() != DIGEST_LENGTH {
+            return Library.md5(bytes, digest);
+        }
+        keep(&md5::digest(bytes), digest);
+        0
+    }
+
+    fn md5_new(&self, state: &mut [u8]) -> u8 {
+        if state.len() < STATE_LENGTH {
+            return Library.md5_new(state);
+        }
+        keep(Md5::new().state(), state);
+        0
+    }
+
+    fn md5_feed(&self, state: &mut [u8], piece: &[u8]) -> u8 {
+        let mut md5 = match state_in(state) {
+            Some(md5) => md5,
+            None => return Library.md5_feed(state, piece),
+        };
+        md5.feed(piece);
+        keep(md5.state(), state);
+        0
+    }
+
+    fn md5_finish(&self, state: &[u8], digest: &mut [u8]) -> u8 {
+        match state_in(state) {
+            Some(md5) if digest.len() == DIGEST_LENGTH => {
+                keep(&md5.finish(), digest);
+                0
+            }
+            _ => Library.md5_finish(state, digest),
         }
     }
 }

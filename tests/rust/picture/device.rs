@@ -6,6 +6,7 @@ use super::svg::Frame;
 use crate::reading::check::check;
 use crate::reading::device::{Device, CONDITIONS};
 use crate::reading::gateway::cut;
+use crate::reading::md5::md5;
 use crate::reading::message::{Announcement, ToDevice, ToGateway, BOTH_FACTS, DEVICE_ROOM, GATEWAY_ANSWERS};
 use crate::reading::number;
 use crate::support::messages::written;
@@ -57,6 +58,7 @@ impl End for Bench {
         calls.extend(
             [(0x00, "00"), (0x0A, "other"), (0x02, "other")].map(|(code, name)| self.finish(code, name)),
         );
+        calls.extend([md5(&PACKAGE), [0; 16]].map(|digest| self.give(digest)));
         calls
     }
 }
@@ -78,6 +80,12 @@ impl Bench {
         let mut after = self.clone();
         let number = after.device.install_finished(code);
         Call { event: Event { message: "installer's end", result, case: "" }, number, answer: None, after }
+    }
+
+    fn give(&self, digest: [u8; 16]) -> Call<Bench> {
+        let mut after = self.clone();
+        let number = after.device.give_digest(digest);
+        Call { event: Event { message: "a digest given", result: "", case: "" }, number, answer: None, after }
     }
 
     fn event(&self, message: &ToDevice, after: &Bench, number: u8) -> Event {
@@ -106,12 +114,14 @@ impl Bench {
 
     /// What a stored fragment has made of the download.
     fn fragment_case(&self) -> &'static str {
-        if self.device.stored < self.device.total {
+        let Device { stored, total, code, digest_set, digest, .. } = self.device;
+        let bytes = &self.image[..PACKAGE.len()];
+        if stored < total {
             "some missing"
-        } else if self.device.code == 0 || self.device.code == check(&self.image[..PACKAGE.len()]) {
-            "complete, code right or 0"
+        } else if (code == 0 || code == check(bytes)) && (digest_set == 0 || digest == md5(bytes)) {
+            "complete, code and digest right or not set"
         } else {
-            "complete, code wrong"
+            "complete, code or digest wrong"
         }
     }
 }
@@ -179,7 +189,7 @@ const PLAN: Plan = Plan {
     routes: &[
         route(IDLE, LOADING, &[(460, 96), (460, 196)], left((450, 150), 30)),
         route(LOADING, IDLE, &[(540, 196), (540, 96)], right((550, 150), 30)),
-        route(LOADING, LOADED, &[(460, 326), (460, 436)], left((450, 378), 18)),
+        route(LOADING, LOADED, &[(460, 326), (460, 436)], left((450, 370), 18)),
         route(LOADED, LOADING, &[(540, 436), (540, 326)], right((550, 386), 18)),
         route(LOADING, FAILED, &[(610, 220), (774, 220)], along((700, 168), 30)),
         route(FAILED, LOADING, &[(774, 250), (610, 250)], along((692, 268), 30)),

@@ -1,13 +1,15 @@
-//! The functions that a host calls, over the bytes that it lends: the records' layouts before and after 01's calls.
-//! A refused call writes nothing, but for the phase with 23.
+//! The functions that a host calls, over the bytes that it lends: the layouts of records and of MD5's state before and
+//! after 01's calls. A refused call writes nothing, but for the phase with 23.
 
 use super::capture::{write, Item, Reader};
 use super::check::{check, message_check};
 use super::device::Device;
 use super::gateway::Gateway;
 use super::layout::{
-    put, read_device, read_gateway, write_device, write_gateway, DEVICE_RECORD, GATEWAY_RECORD, SHORT_RECORD,
+    put, read_device, read_gateway, read_state, write_device, write_gateway, write_state, DEVICE_RECORD,
+    GATEWAY_RECORD, MD5_STATE, SHORT_RECORD,
 };
+use super::md5::{md5, State};
 use super::message::{recognise, Facts, Version};
 use super::{number, number_of, require, Answer};
 
@@ -30,6 +32,7 @@ pub trait Boundary {
     ) -> u32;
     fn device_next_message(&self, record: &[u8], image: &[u8], map: &[u8], reply: &mut [u8]) -> u32;
     fn device_install_finished(&self, record: &mut [u8], code: u8) -> u8;
+    fn device_give_digest(&self, record: &mut [u8], digest: &[u8]) -> u8;
     fn gateway_start(&self, record: &mut [u8], version: &[u8], size: u16, package: &[u8], checked: u8) -> u8;
     fn gateway_receive(
         &self,
@@ -40,6 +43,10 @@ pub trait Boundary {
         reply: &mut [u8],
     ) -> u32;
     fn gateway_next_message(&self, record: &[u8], package: &[u8], reply: &mut [u8]) -> u32;
+    fn md5(&self, bytes: &[u8], digest: &mut [u8]) -> u8;
+    fn md5_new(&self, state: &mut [u8]) -> u8;
+    fn md5_feed(&self, state: &mut [u8], piece: &[u8]) -> u8;
+    fn md5_finish(&self, state: &[u8], digest: &mut [u8]) -> u8;
 }
 
 /// The boundary as the reading has it.
@@ -89,6 +96,15 @@ impl Boundary for Reading {
         updated(record, read_device, write_device, ended).number
     }
 
+    fn device_give_digest(&self, record: &mut [u8], digest: &[u8]) -> u8 {
+        let given =
+            |device: &mut Device, digest| Answer { number: device.give_digest(digest), reply: Vec::new() };
+        match digest.try_into() {
+            Ok(digest) => updated(record, read_device, write_device, |device| given(device, digest)).number,
+            Err(_) => SHORT_RECORD,
+        }
+    }
+
     fn gateway_start(&self, record: &mut [u8], version: &[u8], size: u16, package: &[u8], checked: u8) -> u8 {
         let start = || Gateway::start(version_of(version), size, package, checked != 0);
         made(record, GATEWAY_RECORD, start, write_gateway)
@@ -112,6 +128,26 @@ impl Boundary for Reading {
     fn gateway_next_message(&self, record: &[u8], package: &[u8], reply: &mut [u8]) -> u32 {
         let answer = read_gateway(record).map(|gateway| gateway.next_message(package, reply.len()));
         given(answer.unwrap_or_else(refused), reply)
+    }
+
+    fn md5(&self, bytes: &[u8], digest: &mut [u8]) -> u8 {
+        number_of(&give_digest(md5(bytes), digest))
+    }
+
+    fn md5_new(&self, state: &mut [u8]) -> u8 {
+        made(state, MD5_STATE, || (number::HANDLED, State::new()), write_state)
+    }
+
+    fn md5_feed(&self, state: &mut [u8], piece: &[u8]) -> u8 {
+        let fed = |state: &mut State| {
+            state.feed(piece);
+            Answer::from(Ok(Vec::new()))
+        };
+        updated(state, read_state, write_state, fed).number
+    }
+
+    fn md5_finish(&self, state: &[u8], digest: &mut [u8]) -> u8 {
+        number_of(&read_state(state).and_then(|state| give_digest(state.finish(), digest)))
     }
 }
 
@@ -160,6 +196,13 @@ fn version_of(text: &[u8]) -> Version {
         put(text, &mut version);
     }
     version
+}
+
+/// A digest is put into its buffer, which has its length.
+fn give_digest(digest: [u8; 16], buffer: &mut [u8]) -> Result<(), u8> {
+    require(buffer.len() == digest.len(), SHORT_RECORD)?;
+    put(&digest, buffer);
+    Ok(())
 }
 
 /// A record is made, and written where its making is not refused.

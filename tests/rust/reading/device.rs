@@ -1,7 +1,8 @@
 //! The device (01, "The head"). A call changes record, image and map only if its number is 0; but 23 makes the phase Failed
-//! (02, 2026-06).
+//! (02, 2026-06). A digest may be given, which the completed bytes must have (02, 2026-05).
 
 use super::check::check;
+use super::md5::md5;
 use super::message::{
     is_version, Announcement, Facts, ToDevice, ToGateway, Version, DEVICE_ROOM, SIZES, UPGRADE_RESULTS,
 };
@@ -40,6 +41,10 @@ pub struct Device {
     pub last: u16,
     /// The code kept at the installer's end.
     pub outcome: u8,
+    /// Whether a digest is set: 0 or 1.
+    pub digest_set: u8,
+    /// The digest expected, 0 where none is set.
+    pub digest: [u8; 16],
 }
 
 impl Device {
@@ -94,10 +99,22 @@ impl Device {
         number_of(&allowed)
     }
 
-    /// Whether the record keeps the rules (number 29). Kept code and both versions count in every phase.
+    /// A digest is given for the download held. Order of refusals: 29, 9.
+    pub fn give_digest(&mut self, digest: [u8; 16]) -> u8 {
+        let allowed = require(self.is_sound(), number::RECORD)
+            .and_then(|()| require(self.phase == LOADING, number::NO_USE));
+        if allowed.is_ok() {
+            self.digest_set = 1;
+            self.digest = digest;
+        }
+        number_of(&allowed)
+    }
+
+    /// Whether the record keeps the rules (number 29). Kept code, the digest's flag and both versions count in every phase.
     fn is_sound(&self) -> bool {
         self.phase <= REPORTING
             && UPGRADE_RESULTS.contains(&self.outcome)
+            && self.digest_set <= 1
             && is_version(&self.running)
             && is_version(&self.version)
             && (self.phase == IDLE || self.download_is_sound())
@@ -195,6 +212,8 @@ impl Device {
         self.code = offer.code;
         self.stored = 0;
         self.last = 0;
+        self.digest_set = 0;
+        self.digest = [0; 16];
     }
 
     /// 21: only Loading has a use for it.
@@ -259,10 +278,13 @@ impl Device {
         length == size || (self.is_last(index) && length < size)
     }
 
-    /// The check runs over the true length, so only as far as the last fragment reaches.
+    /// Check and digest run over the true length, so only as far as the last fragment reaches.
     fn image_is_good(&self, image: &[u8]) -> bool {
         let length = usize::from(self.size) * usize::from(self.total - 1) + usize::from(self.last);
-        self.code == 0 || self.code == check(&image[..length])
+        let bytes = &image[..length];
+        let check_passes = self.code == 0 || self.code == check(bytes);
+        let digest_passes = self.digest_set == 0 || self.digest == md5(bytes);
+        check_passes && digest_passes
     }
 
     /// 22, the gateway's answer to the download result.

@@ -10,6 +10,7 @@ pub mod check;
 pub mod device;
 pub mod gateway;
 pub mod layout;
+pub mod md5;
 pub mod message;
 pub mod replay;
 

@@ -6,6 +6,7 @@ use super::messages::{
 use super::random::Random;
 use super::version;
 use crate::reading::capture::{Item, Reader, FROM_DEVICE, TOWARD_DEVICE};
+use crate::reading::check::check;
 use crate::reading::device::{is_stored, Device, READY};
 use crate::reading::gateway::Gateway;
 use crate::reading::message::{encode, ToGateway, BOTH_FACTS, DEVICE_ROOM, GATEWAY_ROOM, SIZES};
@@ -271,6 +272,37 @@ pub fn recut_repeated(seed: u64) -> Vec<u8> {
     assert_eq!(session.device.phase, 2, "the recut is loaded");
     assert_eq!(session.image[..second.len()], second);
     session.capture.bytes
+}
+
+/// A package, and a download of it in which two fragments are damaged on the way and no check sees it: in the one two
+/// neighbouring bytes are xored with 0A and C3, in the other two bytes that are 13 apart are exchanged. The image has the
+/// package's code as its check, and is installed.
+pub fn unseen_damage() -> (Vec<u8>, Vec<u8>) {
+    let package = package(8, 5 * 128 + 77);
+    let mut server = Server::new("V1.0", 128, &package, true);
+    let mut session = Session::new(SAMPLE_SEED);
+    session.offer(&mut server);
+    for index in 0..6 {
+        let request = session.device.next_message(&session.image, &session.map, DEVICE_ROOM).reply;
+        session.capture.add_from_device(&request);
+        let mut message = server.receive(&request);
+        match index {
+            1 => {
+                message[40] ^= 0x0A;
+                message[41] ^= 0xC3;
+            }
+            4 => message.swap(30, 43),
+            _ => {}
+        }
+        session.deliver(&message);
+    }
+    session.report(&mut server);
+    session.exchange(&mut server);
+    assert_eq!(session.device.phase, 5, "the device installs");
+    let image = &session.image[..package.len()];
+    let differing = image.iter().zip(&package).filter(|(stored, sent)| stored != sent).count();
+    assert_eq!((differing, check(image)), (4, check(&package)), "the damage is there, and not seen");
+    (package, session.capture.bytes)
 }
 
 /// A good start, then a record whose mark is wrong.
