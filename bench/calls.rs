@@ -1,9 +1,10 @@
 //! Single calls.
 
 use crate::ends::{DeviceEnd, GatewayEnd, Library, Memory, Plain, Side};
+use crate::md5;
 use crate::measure::{compare, timed, Times};
 use crate::upgrade::offered;
-use pcp::{Code, DEVICE_REPLY, GATEWAY_REPLY};
+use pcp::{Code, DevicePhase, DEVICE_REPLY, GATEWAY_REPLY};
 use plain::search::{by_bits, by_bytes, by_eights, Search};
 use std::hint::black_box;
 use std::time::Duration;
@@ -20,16 +21,27 @@ pub const CHECKS: [(&str, fn(&[u8]) -> u16); 3] = [
     ("reading alone", plain::check::read),
 ];
 
-/// The check, against one of these. A round is short, so that what else the machine does meets the rounds of a pair alike.
+/// The check, against one of these.
 pub fn check(input: &[u8], against: fn(&[u8]) -> u16) -> Times {
     assert_eq!(Library::check(input), Plain::check(input));
+    of_bytes(input, Library::check, against)
+}
+
+/// MD5, against OpenSSL's.
+pub fn digest(input: &[u8]) -> Times {
+    assert_eq!(md5::library(input), md5::openssl(input));
+    of_bytes(input, md5::library, md5::openssl)
+}
+
+/// What is worked out of some bytes. A round is short, so that what else the machine does meets the rounds of a pair alike.
+fn of_bytes<T>(input: &[u8], library: fn(&[u8]) -> T, against: fn(&[u8]) -> T) -> Times {
     let calls = (ROUND / input.len()).max(1);
     let rounds = if calls > 1 { 2_001 } else { 41 };
     let units = calls * input.len();
     compare(
         rounds,
         units,
-        || repeated(calls, || Library::check(black_box(input))),
+        || repeated(calls, || library(black_box(input))),
         || repeated(calls, || against(black_box(input))),
     )
 }
@@ -78,6 +90,24 @@ pub fn fragment_received(size: u16, package: &[u8]) -> Times {
         || library.receive_and_set_back(messages),
         || plain.receive_and_set_back(messages),
     )
+}
+
+/// The last fragment is received, with which the image is tested: by check and digest on the one side, by the check alone
+/// on the other, both of them the library.
+pub fn completed(size: u16, package: &[u8]) -> Times {
+    let messages = fragment_messages(size, package);
+    let (before, last) = messages.split_at(messages.len() - 1);
+    let (mut with, mut without) =
+        (Loading::<Library>::new(size, package), Loading::<Library>::new(size, package));
+    with.device.give_digest(&md5::openssl(package)).expect("a digest is taken in Loading");
+    for side in [&mut with, &mut without] {
+        side.receive(before);
+        let (device, map) = (side.device.clone(), side.memory.map.clone());
+        side.receive(last);
+        assert_eq!(side.device.phase(), DevicePhase::Loaded, "the image passes");
+        (side.device, side.memory.map) = (device, map);
+    }
+    compare(41, package.len(), || with.receive_and_set_back(last), || without.receive_and_set_back(last))
 }
 
 /// The gateway is asked for the first fragment.

@@ -1,9 +1,10 @@
 //! `bench FOLDER` measures the speed of the library against plain Rust, see docs/BENCHMARKS.md, and draws what the check
 //! costs for each byte, and an upgrade for each fragment. Before anything is timed, both have given the same results.
-//! `bench FOLDER check` stops behind the check.
+//! `bench FOLDER check` measures the check alone, `bench FOLDER md5` digests alone.
 
 mod calls;
 mod ends;
+mod md5;
 mod measure;
 mod plot;
 mod upgrade;
@@ -14,13 +15,19 @@ use plot::{Chart, Line};
 use std::{env, fs};
 
 fn main() {
-    let folder = env::args().nth(1).expect("usage: bench FOLDER [check]");
+    let folder = env::args().nth(1).expect("usage: bench FOLDER [check | md5]");
+    let alone = env::args().nth(2);
     let draw = |picture: &str, chart: Chart| {
         fs::write(format!("{folder}/{picture}.svg"), chart.drawn()).expect("the picture is written");
     };
     println!("{:<36} {:>12} {:>12} {:>7} {:>8}", "", "library", "plain", "ratio", "quartiles");
-    draw("check-by-length", checks());
-    if env::args().nth(2).as_deref() == Some("check") {
+    if alone.as_deref() != Some("md5") {
+        draw("check-by-length", checks());
+    }
+    if alone.as_deref() != Some("check") {
+        digests();
+    }
+    if alone.is_some() {
         return;
     }
     for size in [SIZE_PUBLIC, SIZE_MAX] {
@@ -86,6 +93,19 @@ fn checks() -> Chart {
     }
     let title = "The check, and plain Rust: cost for each byte".to_string();
     Chart { title, along: "bytes", unit: ("ns", 1.0), named, lines }
+}
+
+/// MD5, and what it adds where a download is completed.
+fn digests() {
+    println!("MD5, ns for each byte, against OpenSSL");
+    for length in [16, 500, 64 << 10, 8 << 20] {
+        print_row(&format!("{length} bytes"), &calls::digest(&bytes(length)));
+    }
+    println!("the last fragment is received, ns for each byte of the image, with a digest against none");
+    for size in [SIZE_PUBLIC, SIZE_MAX] {
+        let times = calls::completed(size, &bytes(8 << 20));
+        print_row(&format!("{} bytes, in fragments of {size}", 8 << 20), &times);
+    }
 }
 
 fn print_row(name: &str, times: &Times) {
