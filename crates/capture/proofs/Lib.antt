@@ -1,9 +1,2 @@
-pub mod Steps
-pub mod Records
 pub mod Walks
 pub mod ReaderWalks
-pub mod Writes
-pub mod Mends
-pub mod MendedCaptures
-pub mod Written
-pub mod Cases

@@ -5,12 +5,12 @@ use Rattle.capture.specs.declared.Walked.{Walked}
 use mathlib.Core.List.{List}
 use Prim.Native.Nat.{ℕ}
 use Rattle.capture.specs.declared.Wrote as declared
-use Rattle.capture.specs.Capture.{Item, Walk}
-use Rattle.capture.specs.Writing.{Wrote}
+use Rattle.capture_rules.specs.Capture.{Item, Walk}
+use Rattle.capture_rules.specs.Writing.{Wrote}
 use Rattle.capture.specs.declared.Part as declared-part
 use Rattle.capture.specs.declared.Part.the-variants as variants
 use Rattle.capture.specs.declared.Mended.{Mended}
-use Rattle.capture.specs.Mending.{Part, Mend}
+use Rattle.capture_rules.specs.Mending.{Part, Mend}
 
 -- a record's values, the end, and 01's number, 20 or 21
 abbrev pub itemOf : Step → Item

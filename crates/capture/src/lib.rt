@@ -11,8 +11,8 @@ use basis::number::CUT_SHORT;
 use mend::mend_at;
 pub use write::write_record;
 ghost use mathlib.Core.Path.{_≡_};
-ghost use Rattle.capture.specs.Capture.{wrongMark, itemAt, walkAt};
-ghost use Rattle.capture.specs.Mending.{mendAt};
+ghost use Rattle.capture_rules.specs.Capture.{wrongMark, itemAt, walkAt};
+ghost use Rattle.capture_rules.specs.Mending.{mendAt};
 ghost use Rattle.capture.specs.Answers.{itemOf, told, mendTold};
 ghost use Rattle.capture.specs.Reader.{readerAt};
 

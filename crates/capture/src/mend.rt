@@ -8,7 +8,7 @@ use basis::number::HANDLED;
 ghost use mathlib.Core.Path.{_≡_};
 ghost use Prim.Native.Nat.{_-_};
 ghost use lib.ListN.{length};
-ghost use Rattle.capture.specs.Mending.{sound, firstSound, mendAt};
+ghost use Rattle.capture_rules.specs.Mending.{sound, firstSound, mendAt};
 ghost use Rattle.capture.specs.Answers.{mendTold};
 
 // At the place there is a whole record whose message passes the tests 1 to 7, both facts yes.

@@ -13,8 +13,8 @@ ghost use mathlib.Core.List.{_++_};
 ghost use Prim.Native.Nat.{_+_, _≤_};
 ghost use lib.ListN.{length};
 ghost use Rattle.basis.specs.Bytes.{wordBytes};
-ghost use Rattle.capture.specs.Capture.{markOf, headerLength};
-ghost use Rattle.capture.specs.Writing.{messageMost, fits, laid, writeAt};
+ghost use Rattle.capture_rules.specs.Capture.{markOf, headerLength};
+ghost use Rattle.capture_rules.specs.Writing.{messageMost, fits, laid, writeAt};
 ghost use Rattle.capture.specs.Answers.{wrote};
 
 fn mark_of(toward: bool) -> u16

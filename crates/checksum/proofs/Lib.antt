@@ -4,5 +4,3 @@ pub mod Linear
 pub mod Folding
 pub mod Spreads
 pub mod Words
-pub mod Neighbours
-pub mod Unseen

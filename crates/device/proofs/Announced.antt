@@ -13,8 +13,8 @@ use Rattle.message.specs.Messages.{announceReply}
 use Rattle.message.specs.declared.Fields.{Fields}
 use Rattle.device_record.specs.declared.Device.{Device}
 use Rattle.device_record.specs.Record.{begun, mapBytes}
-use Rattle.device_decisions.proofs.Accepted.{accepted-facts}
-use Rattle.device.specs.Rules.{After, announceResult, resumes, replied, begin, onAnnounce}
+use Rattle.device_rules.proofs.Accepted.{accepted-facts}
+use Rattle.device_rules.specs.Rules.{After, announceResult, resumes, replied, begin, onAnnounce}
 
 module _ (d : Device) (image map : List ℕ) (condition : ℕ) (f : Fields) where
   -- the handler's test: answered 00 and not resumed

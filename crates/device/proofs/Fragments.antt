@@ -10,7 +10,7 @@ use Rattle.basis.proofs.Choosing.{pick-yes, pick-no}
 use Rattle.device_record.specs.declared.Device.{Device}
 use Rattle.basis.specs.Numbers.{repeatDiffers}
 use Rattle.device_record.specs.Record.{idle, loading, inPhase}
-use Rattle.device.specs.Rules.{refuse, differ, moved, store, fragmentRefusal, onFragment}
+use Rattle.device_rules.specs.Rules.{refuse, differ, moved, store, fragmentRefusal, onFragment}
 
 module _ (d : Device) (image map reply : List ℕ) (result index : ℕ) (content : List ℕ) where
   pub not-loading : (d .phase ≡ loading → ⊥) → onFragment d image map reply result index content ≡ refuse d image map reply 9

@@ -1,16 +1,7 @@
-pub mod Images
-pub mod Holds
-pub mod Views
-pub mod Sound
-pub mod Standing
-pub mod Not29Not14
 pub mod Announced
 pub mod Executed
-pub mod Guarded
 pub mod Fragments
 pub mod Readings
-pub mod RefusedMaking
 pub mod Replying
 pub mod Storing
 pub mod Wanted
-pub mod Cases

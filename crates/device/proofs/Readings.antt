@@ -12,9 +12,9 @@ use Rattle.codec.specs.Answers.{OfCode}
 use Rattle.codec.proofs.Leading as leading
 use Rattle.codec.proofs.Leading.{same-fields, Promised, device-placed}
 use Rattle.device_record.specs.declared.Device.{Device}
-use Rattle.device.specs.declared.Answer.{Answer}
-use Rattle.device.specs.Rules.{After, refuse, handle}
-use Rattle.device.specs.Answers.{afterCall}
+use Rattle.device_rules.specs.declared.Answer.{Answer}
+use Rattle.device_rules.specs.Rules.{After, refuse, handle}
+use Rattle.device_rules.specs.Answers.{afterCall}
 
 -- the exit: the number of the refusal is passed on
 pub leaves : (m : ToDevice) (d : Device) (r : Answer) (n : ℕ) → ((k : ℕ) → m ≡ ToDevice.Refused k → n ≡ k)

@@ -20,10 +20,10 @@ use Rattle.round_trips.proofs.RoundTrip.{gateway-round-trip}
 use Rattle.round_trips.proofs.Said.{spoken-said}
 use Rattle.device_record.specs.declared.Device.{Device}
 use Rattle.device_record.specs.Record.{loading, conditionOk, recordOk, askRefusal}
-use Rattle.device.specs.Rules.{replied, announceResult, executeResult, wanted, nextMessageOf}
-use Rattle.device.specs.Answers.{afterCall}
-use Rattle.device.specs.Inner.{Guarded}
-use Rattle.device.proofs.Guarded.{asking-passed}
+use Rattle.device_rules.specs.Rules.{replied, announceResult, executeResult, wanted, nextMessageOf}
+use Rattle.device_rules.specs.Answers.{afterCall}
+use Rattle.device_rules.specs.Inner.{Guarded}
+use Rattle.device_rules.proofs.Guarded.{asking-passed}
 use Rattle.device_record.proofs.Records.{Kept, Ranged, record-kept}
 
 -- a reply with the device after it

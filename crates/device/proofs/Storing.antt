@@ -13,9 +13,9 @@ use Rattle.basis.proofs.Choosing.{and-both}
 use Rattle.bitmap.specs.Bitmap.{mark}
 use Rattle.device_record.specs.declared.Device.{Device}
 use Rattle.device_record.specs.Record.{loading, acked, holding, recordOk, memoryOk, mapBytes, withFragment}
-use Rattle.device.specs.Rules.{fragmentLength, completion, moved, store}
-use Rattle.device_decisions.proofs.Tested.{fragment-fits}
-use Rattle.device.proofs.Images.{place-within}
+use Rattle.device_rules.specs.Rules.{fragmentLength, completion, moved, store}
+use Rattle.device_rules.proofs.Tested.{fragment-fits}
+use Rattle.device_rules.proofs.Images.{place-within}
 use Rattle.device_record.proofs.Records.{Ranged, record-kept, room-held}
 
 pub loading-holds : (phase : ℕ) → phase ≡ loading → holding phase ≡ true

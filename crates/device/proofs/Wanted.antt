@@ -14,7 +14,7 @@ use Rattle.message.specs.declared.ToGateway
 use Rattle.message.specs.declared.ToGateway.{ToGateway}
 use Rattle.device_record.specs.declared.Device.{Device}
 use Rattle.device_record.specs.Record.{loading, loaded, failed, reporting}
-use Rattle.device.specs.Rules.{wanted}
+use Rattle.device_rules.specs.Rules.{wanted}
 
 -- the version that the message of a phase carries
 abbrev pub spoken : Device → List ℕ

@@ -1,5 +1,4 @@
 // The six messages to the device, a handler each. Any reading but the one expected leaves by one exit.
-use crate::Answer;
 use crate::replies::moved;
 use crate::replies::number_of;
 use crate::replies::refused;
@@ -19,6 +18,7 @@ use device_record::begun;
 use device_record::in_phase;
 use device_record::map_bytes;
 use device_record::with_fragment;
+use device_rules::Answer;
 use message::Fields;
 use message::ToDevice;
 use message::ToGateway;
@@ -29,10 +29,10 @@ ghost use Prim.Native.Nat.{ℕ, _≤_, _<_};
 ghost use lib.ListN.{length};
 ghost use Rattle.message.specs.Limits.{deviceRoom};
 ghost use Rattle.device_record.specs.Record.{loading, recordOk, memoryOk};
-ghost use Rattle.device_decisions.specs.Decisions.{fragmentLength};
-ghost use Rattle.device.specs.Rules.{refuse, store, onQuery, onAnnounce, onFragment, onDownloadReply, onExecute, onResultReply};
-ghost use Rattle.device.specs.Answers.{afterCall};
-ghost use Rattle.device.specs.Inner.{Guarded};
+ghost use Rattle.device_rules.specs.Decisions.{fragmentLength};
+ghost use Rattle.device_rules.specs.Rules.{refuse, store, onQuery, onAnnounce, onFragment, onDownloadReply, onExecute, onResultReply};
+ghost use Rattle.device_rules.specs.Answers.{afterCall};
+ghost use Rattle.device_rules.specs.Inner.{Guarded};
 
 // 19: the running version is asked for.
 pub(crate) fn on_query(device: Device, message: ToDevice, reply: &mut [u8]) -> Answer

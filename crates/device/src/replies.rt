@@ -1,8 +1,8 @@
 // What a handler answers with.
-use crate::Answer;
 use basis::number::HANDLED;
 use basis::number::NO_USE;
 use device_record::Device;
+use device_rules::Answer;
 use message::ToDevice;
 use message::ToGateway;
 ghost use mathlib.Core.Path.{_≡_};
@@ -13,8 +13,8 @@ ghost use Rattle.message.specs.Limits.{deviceRoom};
 ghost use Rattle.message.specs.Messages.{GatewayMessage, found, toGateway};
 ghost use Rattle.message.specs.Enums.{gatewayMessage};
 ghost use Rattle.codec.specs.Answers.{Sayable};
-ghost use Rattle.device.specs.Rules.{refuse, moved, replied};
-ghost use Rattle.device.specs.Answers.{afterCall};
+ghost use Rattle.device_rules.specs.Rules.{refuse, moved, replied};
+ghost use Rattle.device_rules.specs.Answers.{afterCall};
 
 // The number of a reading that is no message.
 pub(crate) fn number_of(message: ToDevice) -> u8

@@ -1,8 +1,5 @@
 // The calls: a message is given and led to its handler, the next one is asked for, the installer
 // ends, a digest is given.
-use crate::Answer;
-use crate::DigestAnswer;
-use crate::Finished;
 use crate::handlers::on_announce;
 use crate::handlers::on_download_reply;
 use crate::handlers::on_execute;
@@ -15,6 +12,9 @@ use basis::number::HANDLED;
 use basis::number::NO_USE;
 use codec::Written;
 use device_record::Device;
+use device_rules::Answer;
+use device_rules::DigestAnswer;
+use device_rules::Finished;
 use message::ToDevice;
 use message::ToGateway;
 ghost use mathlib.Core.Path.{_≡_};
@@ -28,9 +28,9 @@ ghost use Rattle.message.specs.Messages.{toDevice};
 ghost use Rattle.message.specs.Enums.{deviceMessage, gatewayMessage};
 ghost use Rattle.codec.specs.Answers.{sent, OfCode};
 ghost use Rattle.device_record.specs.Record.{reporting};
-ghost use Rattle.device.specs.Rules.{handle, receiveOf, wanted, nextMessageOf, installFinishedOf, giveDigestOf};
-ghost use Rattle.device.specs.Answers.{afterCall};
-ghost use Rattle.device.specs.Inner.{Guarded};
+ghost use Rattle.device_rules.specs.Rules.{handle, receiveOf, wanted, nextMessageOf, installFinishedOf, giveDigestOf};
+ghost use Rattle.device_rules.specs.Answers.{afterCall};
+ghost use Rattle.device_rules.specs.Inner.{Guarded};
 
 // A reading is led to the handler of its message's code; a refusal leaves by the exit of whatever
 // handler it comes to.

@@ -19,8 +19,8 @@ use message::Fields;
 ghost use mathlib.Core.Path.{_≡_};
 ghost use lib.Dec.{eqb, leb};
 ghost use Rattle.basis.specs.Choice.{pick};
-ghost use Rattle.device_decisions.specs.Decisions.{announceResult, sameFields, resumes, fragmentLength, repeatRefusal, fragmentRefusal};
-ghost use Rattle.device_decisions.specs.Decisions.{byIndex, lastAfter, checkPasses, digestPasses, passes, trueLength, completion, executeResult};
+ghost use Rattle.device_rules.specs.Decisions.{announceResult, sameFields, resumes, fragmentLength, repeatRefusal, fragmentRefusal};
+ghost use Rattle.device_rules.specs.Decisions.{byIndex, lastAfter, checkPasses, digestPasses, passes, trueLength, completion, executeResult};
 
 // 20: what an announcement is answered with, tests in order.
 pub fn announce_result(

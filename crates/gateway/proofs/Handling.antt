@@ -15,11 +15,11 @@ use Rattle.message.proofs.ToGateway.{parts, enum}
 use Rattle.message.specs.Messages.{fragment, downloadReply, resultReply}
 use Rattle.gateway_record.specs.declared.Gateway.{Gateway}
 use Rattle.gateway_record.specs.Record.{ask, offer, serve, run, notAccepted, downloadFailed, notExecuted, inPhase, endedWith}
-use Rattle.gateway_decisions.specs.Decisions.{afterQuery, fragmentResult, installEnding}
-use Rattle.gateway.specs.Rules.{refuse, moved, replied, onQueryReply, onAnnounceReply, onFragmentRequest, onDownloadReport}
-use Rattle.gateway.specs.Rules.{onExecuteReply, onResultReport}
+use Rattle.gateway_rules.specs.Decisions.{afterQuery, fragmentResult, installEnding}
+use Rattle.gateway_rules.specs.Rules.{refuse, moved, replied, onQueryReply, onAnnounceReply, onFragmentRequest, onDownloadReport}
+use Rattle.gateway_rules.specs.Rules.{onExecuteReply, onResultReport}
 use Rattle.codec.proofs.Leading.{same-fields}
-use Rattle.gateway.proofs.Saying.{fragment-denied, fragment-given}
+use Rattle.gateway_rules.proofs.Saying.{fragment-denied, fragment-given}
 
 module _ (g : Gateway) (content reply : List ℕ) where
   -- ---- an answer of 19, 20 or 23: handled in its phase, and of no use in another

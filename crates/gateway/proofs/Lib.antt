@@ -1,8 +1,2 @@
 pub mod Readings
 pub mod Handling
-pub mod Saying
-pub mod GuardedCalls
-pub mod RefusedStart
-pub mod Views
-pub mod Answered
-pub mod Cases

@@ -11,9 +11,9 @@ use Rattle.codec.specs.Answers.{OfCode}
 use Rattle.codec.proofs.Leading as leading
 use Rattle.codec.proofs.Leading.{Promised, gateway-placed}
 use Rattle.gateway_record.specs.declared.Gateway.{Gateway}
-use Rattle.gateway.specs.declared.Answer.{Answer}
-use Rattle.gateway.specs.Rules.{After, refuse, handle}
-use Rattle.gateway.specs.Answers.{afterCall}
+use Rattle.gateway_rules.specs.declared.Answer.{Answer}
+use Rattle.gateway_rules.specs.Rules.{After, refuse, handle}
+use Rattle.gateway_rules.specs.Answers.{afterCall}
 
 -- the exit: the number of the refusal is passed on
 pub leaves : (m : ToGateway) (g : Gateway) (r : Answer) (n : ℕ) → ((k : ℕ) → m ≡ ToGateway.Refused k → n ≡ k)

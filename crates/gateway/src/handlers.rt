@@ -1,6 +1,5 @@
 // The six messages to the gateway, a handler each. Any reading but the one expected leaves by one
 // exit.
-use crate::Answer;
 use crate::replies::moved;
 use crate::replies::number_of;
 use crate::replies::refused;
@@ -13,6 +12,7 @@ use gateway_record::Gateway;
 use gateway_record::ended_with;
 use gateway_record::fragment;
 use gateway_record::in_phase;
+use gateway_rules::Answer;
 use message::ToDevice;
 use message::ToGateway;
 ghost use mathlib.Core.Path.{_≡_};
@@ -22,9 +22,9 @@ ghost use lib.Dec.{eqb};
 ghost use lib.ListN.{length};
 ghost use Rattle.basis.specs.Choice.{pick};
 ghost use Rattle.message.specs.Limits.{gatewayRoom};
-ghost use Rattle.gateway.specs.Rules.{refuse, onQueryReply, onAnnounceReply, onFragmentRequest, onDownloadReport, onExecuteReply, onResultReport};
-ghost use Rattle.gateway.specs.Answers.{afterCall};
-ghost use Rattle.gateway.specs.Inner.{Guarded};
+ghost use Rattle.gateway_rules.specs.Rules.{refuse, onQueryReply, onAnnounceReply, onFragmentRequest, onDownloadReport, onExecuteReply, onResultReport};
+ghost use Rattle.gateway_rules.specs.Answers.{afterCall};
+ghost use Rattle.gateway_rules.specs.Inner.{Guarded};
 
 // 00 leads to the one record, any other code to the other.
 fn by_result(result: u8, good: Gateway, bad: Gateway) -> Gateway

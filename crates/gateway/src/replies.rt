@@ -1,8 +1,8 @@
 // What a handler answers with.
-use crate::Answer;
 use basis::number::HANDLED;
 use basis::number::NO_USE;
 use gateway_record::Gateway;
+use gateway_rules::Answer;
 use message::ToDevice;
 use message::ToGateway;
 ghost use mathlib.Core.Path.{_≡_};
@@ -13,8 +13,8 @@ ghost use Rattle.message.specs.Limits.{gatewayRoom};
 ghost use Rattle.message.specs.Messages.{DeviceMessage, found, toDevice};
 ghost use Rattle.message.specs.Enums.{deviceMessage};
 ghost use Rattle.codec.specs.Answers.{Sayable};
-ghost use Rattle.gateway.specs.Rules.{refuse, moved, replied};
-ghost use Rattle.gateway.specs.Answers.{afterCall};
+ghost use Rattle.gateway_rules.specs.Rules.{refuse, moved, replied};
+ghost use Rattle.gateway_rules.specs.Answers.{afterCall};
 
 // The number of a reading that is no message.
 pub(crate) fn number_of(message: ToGateway) -> u8

@@ -1,5 +1,4 @@
 // The calls: a message is given and led to its handler, and the next one is asked for.
-use crate::Answer;
 use crate::handlers::on_announce_reply;
 use crate::handlers::on_download_report;
 use crate::handlers::on_execute_reply;
@@ -12,6 +11,7 @@ use basis::number::NO_USE;
 use codec::Written;
 use gateway_record::Gateway;
 use gateway_record::calling;
+use gateway_rules::Answer;
 use message::ToDevice;
 use message::ToGateway;
 ghost use mathlib.Core.Path.{_≡_};
@@ -19,9 +19,9 @@ ghost use mathlib.Core.List.{[]};
 ghost use Rattle.message.specs.Messages.{toGateway};
 ghost use Rattle.message.specs.Enums.{deviceMessage, gatewayMessage};
 ghost use Rattle.codec.specs.Answers.{sent, OfCode};
-ghost use Rattle.gateway.specs.Rules.{handle, receiveOf, wanted, nextMessageOf};
-ghost use Rattle.gateway.specs.Answers.{afterCall};
-ghost use Rattle.gateway.specs.Inner.{Guarded};
+ghost use Rattle.gateway_rules.specs.Rules.{handle, receiveOf, wanted, nextMessageOf};
+ghost use Rattle.gateway_rules.specs.Answers.{afterCall};
+ghost use Rattle.gateway_rules.specs.Inner.{Guarded};
 
 // A reading is led to the handler of its message's code; a refusal leaves by the exit of whatever
 // handler it comes to.

@@ -6,7 +6,7 @@ use gateway_record::ended_with;
 use gateway_record::in_phase;
 use message::Fields;
 ghost use mathlib.Core.Path.{_≡_};
-ghost use Rattle.gateway_decisions.specs.Decisions.{afterQuery, serving, fragmentResult, installEnding};
+ghost use Rattle.gateway_rules.specs.Decisions.{afterQuery, serving, fragmentResult, installEnding};
 
 // 19 answer in Ask: the target already runs, which ends with 1, else Offer.
 pub fn after_query(gateway: Gateway, version: [u8; 16]) -> Gateway

@@ -5,10 +5,10 @@ use mathlib.Core.Bool.{Bool, true}
 use mathlib.Core.List.{List, [], _∷_}
 use lib.ListN.{length}
 use Rattle.basis.specs.Bytes.{same}
-use Rattle.md5.specs.Md5.{md5Of}
+use Rattle.md5_rules.specs.Md5.{md5Of}
 use Rattle.device_record.specs.Record.{mapBytes}
 use Rattle.gateway_record.specs.Record.{totalOf}
-use Rattle.pcp.specs.Exports.{fact, textOf}
+use Rattle.exports.specs.Exports.{fact, textOf}
 use Rattle.upgrade.specs.Calls.{DeviceCall, given, asked, finished, digestGiven, GatewayCall, Call, atDevice, atGateway, Ends, next}
 use Rattle.upgrade.specs.Records.{DeviceEnd, records, World}
 use Rattle.upgrade.proofs.Ends.{deviceSays, deviceNumber, gatewaySays}

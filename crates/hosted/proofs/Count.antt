@@ -4,8 +4,8 @@ use mathlib.Core.Path.{_≡_, sym, _∙_}
 use mathlib.Core.Bool.{Bool}
 use mathlib.Core.List.{List, [], map}
 use lib.ListN.{length}
-use Rattle.layout.specs.Layout.{deviceLength}
-use Rattle.pcp.specs.Exports.{fact, textOf}
+use Rattle.layout_rules.specs.Layout.{deviceLength}
+use Rattle.exports.specs.Exports.{fact, textOf}
 use Rattle.upgrade.specs.Fold.{after}
 use Rattle.upgrade.specs.Calls.{DeviceCall}
 use Rattle.upgrade.specs.Records.{deviceNext, deviceRecords}

@@ -9,10 +9,10 @@ use Rattle.device_record.specs.declared.Device.{Device}
 use Rattle.device_record.specs.Record.{newOf}
 use Rattle.gateway_record.specs.declared.Gateway.{Gateway}
 use Rattle.gateway_record.specs.Record.{startOf}
-use Rattle.layout.specs.Layout.{deviceLength, gatewayAt, gatewayLength}
-use Rattle.pcp.specs.Exports.{fact, textOf, Left, deviceNewOf, gatewayStartOf}
-use Rattle.pcp.proofs.ExportLaws.{long-enough}
-use Rattle.pcp.proofs.Carrying.{records-carried}
+use Rattle.layout_rules.specs.Layout.{deviceLength, gatewayAt, gatewayLength}
+use Rattle.exports.specs.Exports.{fact, textOf, Left, deviceNewOf, gatewayStartOf}
+use Rattle.exports.proofs.ExportLaws.{long-enough}
+use Rattle.exports.proofs.Carrying.{records-carried}
 use Rattle.upgrade.specs.Fold.{after, Allowed}
 use Rattle.upgrade.specs.Calls.{given, asked, finished, digestGiven, GatewayCall, Call, atDevice, atGateway, next, May}
 use Rattle.upgrade.specs.Records.{DeviceEnd, deviceNext, gatewayNext, records, World}

@@ -8,16 +8,17 @@ use borrow.Author.Tests.{eqb-true, eqb-false}
 use Rattle.basis.specs.Bytes.{over}
 use Rattle.basis.proofs.Choosing.{by-cases, pick-yes, pick-no}
 use Rattle.codec.specs.Codec.{Sent}
-use Rattle.device.specs.declared.DigestAnswer.{DigestAnswer}
-use Rattle.device.specs.Rules as device
-use Rattle.gateway.specs.Rules as gateway
-use Rattle.layout.specs.Layout.{kept, deviceAt, deviceLength, gatewayAt, gatewayLength}
-use Rattle.pcp.specs.Exports.{askAnswer, fact, packed, Left, Asked, DeviceGiven, GatewayGiven, deviceKept, gatewayKept, deviceReceiveOf, deviceNextMessageOf}
-use Rattle.pcp.specs.Exports.{deviceInstallFinishedOf, deviceGiveDigestOf, gatewayReceiveOf, gatewayNextMessageOf}
-use Rattle.pcp.specs.Boundary.{numberIn, lengthIn}
-use Rattle.pcp.proofs.ExportLaws.{long-enough}
-use Rattle.pcp.proofs.Refusals.{device-number, device-ask-number, gateway-number, gateway-ask-number}
-use Rattle.pcp.proofs.Carrying.{digest-whole, records-carried}
+use Rattle.device_rules.specs.declared.DigestAnswer.{DigestAnswer}
+use Rattle.device_rules.specs.Rules as device
+use Rattle.gateway_rules.specs.Rules as gateway
+use Rattle.layout_rules.specs.Layout.{kept, deviceAt, deviceLength, gatewayAt, gatewayLength}
+use Rattle.exports.specs.Exports.{askAnswer, fact, packed, Left, Asked, DeviceGiven, GatewayGiven, deviceKept, gatewayKept, deviceReceiveOf}
+use Rattle.exports.specs.Exports.{deviceNextMessageOf}
+use Rattle.exports.specs.Exports.{deviceInstallFinishedOf, deviceGiveDigestOf, gatewayReceiveOf, gatewayNextMessageOf}
+use Rattle.exports.specs.Boundary.{numberIn, lengthIn}
+use Rattle.exports.proofs.ExportLaws.{long-enough}
+use Rattle.exports.proofs.Refusals.{device-number, device-ask-number, gateway-number, gateway-ask-number}
+use Rattle.exports.proofs.Carrying.{digest-whole, records-carried}
 use Rattle.upgrade.specs.Calls.{aired, DeviceCall, given, asked, finished, digestGiven, GatewayCall, Call, atDevice, atGateway, next}
 use Rattle.upgrade.specs.Records.{deviceDigestAnswer, deviceNext, gatewayNext, records, deviceDoes, gatewayDoes}
 use Rattle.upgrade.proofs.Ends.{deviceSays, deviceNumber, gatewaySays, gatewayNumber}

@@ -13,12 +13,12 @@ use Rattle.message.specs.Messages.{fragmentOk, deviceFields, installCode, gatew
 use Rattle.codec.specs.Codec.{sealed, frame, bytesOf, readOf, writeOf, said}
 use Rattle.bitmap.specs.Bitmap.{marked, mark, cleared, missingFrom, lowestMissing}
 use Rattle.device_record.specs.Record as device-record
-use Rattle.device.specs.Rules as device
+use Rattle.device_rules.specs.Rules as device
 use Rattle.gateway_record.specs.Record as gateway-record
-use Rattle.gateway_decisions.specs.Decisions as decisions
-use Rattle.gateway.specs.Rules as gateway
-use Rattle.layout.specs.Layout.{kept, frontBytes, deviceBytes, deviceAt, gatewayBytes, gatewayAt}
-use Rattle.pcp.specs.Exports.{textOf, deviceNewOf, deviceReceiveOf, gatewayStartOf, gatewayReceiveOf}
+use Rattle.gateway_rules.specs.Decisions as decisions
+use Rattle.gateway_rules.specs.Rules as gateway
+use Rattle.layout_rules.specs.Layout.{kept, frontBytes, deviceBytes, deviceAt, gatewayBytes, gatewayAt}
+use Rattle.exports.specs.Exports.{textOf, deviceNewOf, deviceReceiveOf, gatewayStartOf, gatewayReceiveOf}
 use Rattle.upgrade.specs.Records.{deviceDoes, gatewayDoes}
 use Rattle.upgrade.specs.Held.{heldBy, heldNext, heldAfter}
 use Rattle.upgrade.proofs.Witnessed.{first-only}

@@ -9,8 +9,8 @@ use Rattle.basis.specs.Bytes.{same}
 use Rattle.message.specs.Limits.{deviceRoom, gatewayRoom}
 use Rattle.device_record.specs.Record.{idle, mapBytes}
 use Rattle.gateway_record.specs.Record.{offer, totalOf}
-use Rattle.layout.specs.Layout.{deviceAt, deviceLength, gatewayAt, gatewayLength}
-use Rattle.pcp.specs.Exports.{fact, textOf, deviceNewOf, gatewayStartOf}
+use Rattle.layout_rules.specs.Layout.{deviceAt, deviceLength, gatewayAt, gatewayLength}
+use Rattle.exports.specs.Exports.{fact, textOf, deviceNewOf, gatewayStartOf}
 use Rattle.upgrade.specs.Fold.{after}
 use Rattle.upgrade.specs.Calls.{DeviceCall, GatewayCall}
 use Rattle.upgrade.specs.Records.{World}

@@ -3,10 +3,11 @@ use Prim.Native.Nat.{ℕ, _≤_}
 use mathlib.Core.Path.{_≡_}
 use mathlib.Core.List.{List, [], map}
 use lib.ListN.{length}
-use Rattle.layout.specs.Layout.{deviceAt, deviceLength, gatewayAt, gatewayLength}
-use Rattle.pcp.specs.Exports.{fact, Left, Asked, DeviceGiven, GatewayGiven, deviceReceiveOf, deviceNextMessageOf, deviceInstallFinishedOf, deviceGiveDigestOf}
-use Rattle.pcp.specs.Exports.{gatewayReceiveOf, gatewayNextMessageOf}
-use Rattle.pcp.specs.Boundary.{numberIn, lengthIn}
+use Rattle.layout_rules.specs.Layout.{deviceAt, deviceLength, gatewayAt, gatewayLength}
+use Rattle.exports.specs.Exports.{fact, Left, Asked, DeviceGiven, GatewayGiven, deviceReceiveOf, deviceNextMessageOf, deviceInstallFinishedOf}
+use Rattle.exports.specs.Exports.{deviceGiveDigestOf}
+use Rattle.exports.specs.Exports.{gatewayReceiveOf, gatewayNextMessageOf}
+use Rattle.exports.specs.Boundary.{numberIn, lengthIn}
 use Rattle.upgrade.specs.Fold.{after}
 use Rattle.upgrade.specs.Calls.{aired, DeviceCall, given, asked, finished, digestGiven, GatewayCall, Call, atDevice, atGateway, Done, DeviceSide, Ends}
 use Rattle.upgrade.specs.Calls.{Exchange, next}

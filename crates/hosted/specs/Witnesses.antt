@@ -8,7 +8,7 @@ use Rattle.message.specs.Limits.{deviceRoom, gatewayRoom}
 use Rattle.message.specs.Messages.{DeviceMessage, announce, fragment, queryReply, toDevice, toGateway}
 use Rattle.codec.specs.Codec.{bytesOf}
 use Rattle.device_record.specs.Record.{failed}
-use Rattle.layout.specs.Layout.{deviceAt, deviceLength, gatewayLength}
+use Rattle.layout_rules.specs.Layout.{deviceAt, deviceLength, gatewayLength}
 use Rattle.upgrade.specs.Calls.{DeviceCall, given, GatewayCall}
 use Rattle.upgrade.specs.Records.{World}
 use Rattle.upgrade.specs.Witnesses.{old, new, content, offer}

@@ -9,8 +9,8 @@ ghost use mathlib.Core.List.{[], _∷_, _++_};
 ghost use Prim.Native.Nat.{_≤_};
 ghost use lib.ListN.{length};
 ghost use Rattle.basis.specs.Bytes.{wordBytes, qwordBytes, over, patched};
-ghost use Rattle.layout.specs.Layout.{deviceAt, frontBytes, frontLength, expectedBytes, deviceBytes, deviceLength};
-ghost use Rattle.layout.specs.Layout.{gatewayAt, gatewayBytes, gatewayLength, kept};
+ghost use Rattle.layout_rules.specs.Layout.{deviceAt, frontBytes, frontLength, expectedBytes, deviceBytes, deviceLength};
+ghost use Rattle.layout_rules.specs.Layout.{gatewayAt, gatewayBytes, gatewayLength, kept};
 
 // Where the parts of the device's record stand, each behind the one before: the phase first.
 const RUNNING: usize = 1;

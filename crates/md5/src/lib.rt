@@ -1,13 +1,13 @@
 // MD5 (RFC 1321; 02, 2026-05): the digest of bytes, whole or in pieces. It helps against accidents, and not against
 // someone who means harm.
-mod rounds;
-
+pub use md5_rules::Md5;
+pub use md5_rules::Words;
 ghost use mathlib.Core.Path.{_≡_};
 ghost use Prim.Native.Nat.{_+_, _%_, _≤_, _<_};
 ghost use lib.ListN.{length};
-ghost use Rattle.md5.specs.Md5.{sines, startWords, lowFirst, digestOf, md5Of};
-ghost use Rattle.md5.specs.Stream.{newOf, feedOf, finishOf};
-ghost use Rattle.md5.specs.Inner.{closedOf};
+ghost use Rattle.md5_rules.specs.Md5.{sines, startWords, lowFirst, digestOf, md5Of};
+ghost use Rattle.md5_rules.specs.Stream.{newOf, feedOf, finishOf};
+ghost use Rattle.md5_rules.specs.Inner.{closedOf};
 
 // The constants of the 64 steps.
 const SINES: [u32; 64] = [
@@ -77,22 +77,6 @@ const SINES: [u32; 64] = [
     0xEB86D391,
 ];
 
-// The four words, A to D.
-pub struct Words {
-    pub a: u32,
-    pub b: u32,
-    pub c: u32,
-    pub d: u32,
-}
-
-// The state between two pieces: the words after the whole blocks so far, the number of bytes so far, and
-// the block that is not whole yet, with as many bytes at its front as the number is over a multiple of 64.
-pub struct Md5 {
-    pub words: Words,
-    pub count: u64,
-    pub block: [u8; 64],
-}
-
 // The table, laid out on the stack once for each call, and lent from there on.
 fn sines() -> [u32; 64]
     ensures { λ r. ⌜ r ≡ sines ⌝ }
@@ -148,7 +132,7 @@ fn filled(table: &[u32; 64], state: Md5, bytes: &[u8]) -> Md5
     let at = (state.count % 64) as usize;
     let mut block = state.block;
     basis::put(&mut block, at, bytes);
-    let words = rounds::blocks(table, state.words, &block);
+    let words = md5_rounds::blocks(table, state.words, &block);
     Md5 {
         words,
         count: std::num::wrapping_add_u64(state.count, bytes.len() as u64),
@@ -162,7 +146,7 @@ fn whole(table: &[u32; 64], state: Md5, bytes: &[u8]) -> Md5
     requires { ⌜ (length (now bytes) % 64 ≡ 0) × (64 ≤ length (now bytes)) ⌝ }
     ensures { λ r. ⌜ r ≡ feedOf state (now (bytes .entry)) ⌝ }
 {
-    let words = rounds::blocks(table, state.words, bytes);
+    let words = md5_rounds::blocks(table, state.words, bytes);
     Md5 {
         words,
         count: std::num::wrapping_add_u64(state.count, bytes.len() as u64),
@@ -278,7 +262,7 @@ fn closed(table: &[u32; 64], w: Words, rest: &[u8], count: u64) -> [u8; 16]
     basis::put(&mut out, 0, rest);
     out[at] = 0x80;
     basis::put(&mut out, end - 8, &field);
-    output(rounds::blocks(table, w, &out[0..end]))
+    output(md5_rounds::blocks(table, w, &out[0..end]))
 }
 
 // The digest.
@@ -298,6 +282,6 @@ pub fn digest(bytes: &[u8]) -> [u8; 16]
 {
     let table = sines();
     let end = bytes.len() - bytes.len() % 64;
-    let w = rounds::blocks(&table, start(), bytes);
+    let w = md5_rounds::blocks(&table, start(), bytes);
     closed(&table, w, &bytes[end..], bytes.len() as u64)
 }

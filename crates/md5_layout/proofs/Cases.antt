@@ -2,8 +2,8 @@
 use mathlib.Core.Path.{refl}
 use Rattle.basis.specs.Choice.{pick}
 use Rattle.basis.specs.Bytes.{qwordAt, qwordBytes, part}
-use Rattle.md5.specs.Md5.{mixF, mixG, mixH, mixI, sines, blockWord, step, steps, rounds, increased, compressed}
-use Rattle.md5.specs.Stream.{fedByte, feedOf}
+use Rattle.md5_rules.specs.Md5.{mixF, mixG, mixH, mixI, sines, blockWord, step, steps, rounds, increased, compressed}
+use Rattle.md5_rules.specs.Stream.{fedByte, feedOf}
 use Rattle.md5_layout.specs.Layout.{wordsAt, wordsBytes, stateAt, stateBytes}
 use Rattle.md5_layout.specs.Cases.{LayoutCases}
 

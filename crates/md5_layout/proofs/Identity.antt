@@ -9,9 +9,9 @@ use Rattle.basis.specs.Bytes.{Bytes, dwordAt, dwordBytes, qwordAt, qwordBytes, 
 use Rattle.basis.proofs.Choosing.{by-cases}
 use Rattle.basis.proofs.Lists.{dword-below, dword-part, dword-back, qword-below, qword-part, qword-drop, qword-back}
 use Rattle.basis.proofs.Lists.{length-part, part-within, part-drop, over-take}
-use Rattle.md5.specs.declared.Words.{Words}
-use Rattle.md5.specs.declared.Md5.{Md5}
-use Rattle.md5.specs.Stream.{state, fedByte, feedOf}
+use Rattle.md5_rules.specs.declared.Words.{Words}
+use Rattle.md5_rules.specs.declared.Md5.{Md5}
+use Rattle.md5_rules.specs.Stream.{state, fedByte, feedOf}
 use Rattle.md5_layout.specs.Layout.{wordsAt, wordsBytes, stateAt, stateBytes, stateLength}
 use Rattle.md5_layout.specs.Identity.{StateHeld, StateIdentity}
 

@@ -4,8 +4,8 @@ use mathlib.Core.Path.{_≡_, refl, _∙_, ap}
 use mathlib.Core.List.{List, _++_}
 use Rattle.basis.specs.Bytes.{dwordBytes, qwordBytes, over, patched}
 use Rattle.basis.proofs.Lists.{patched-front, put-behind}
-use Rattle.md5.specs.declared.Words.{Words}
-use Rattle.md5.specs.declared.Md5.{Md5}
+use Rattle.md5_rules.specs.declared.Words.{Words}
+use Rattle.md5_rules.specs.declared.Md5.{Md5}
 use Rattle.md5_layout.specs.Layout.{wordsBytes, stateBytes}
 
 pub words-put : (w : Words) (o o₁ o₂ o₃ o₄ : List ℕ) → o₁ ≡ patched 0 (dwordBytes (w .a)) o → o₂ ≡ patched 4 (dwordBytes (w .b)) o₁

@@ -4,9 +4,9 @@ use mathlib.Core.List.{List, [], _∷_, _++_}
 use lib.ListN.{replicate}
 use Rattle.basis.specs.Bytes.{qwordAt, qwordBytes}
 use Rattle.basis.specs.Cases.{Agree}
-use Rattle.md5.specs.declared.Md5.{Md5}
-use Rattle.md5.specs.Stream.{newOf, feedOf}
-use Rattle.md5.specs.Cases.{from}
+use Rattle.md5_rules.specs.declared.Md5.{Md5}
+use Rattle.md5_rules.specs.Stream.{newOf, feedOf}
+use Rattle.md5_rules.specs.Cases.{from}
 use Rattle.md5_layout.specs.Layout.{stateAt, stateBytes}
 
 -- a number of bytes, and how it stands in a state: 0, 1, around 4 GiB, one whose bytes all differ, and the highest

@@ -4,7 +4,7 @@ use mathlib.Core.Path.{_≡_}
 use mathlib.Core.List.{List}
 use lib.ListN.{length, take}
 use Rattle.basis.specs.Bytes.{Bytes, over}
-use Rattle.md5.specs.declared.Md5.{Md5}
+use Rattle.md5_rules.specs.declared.Md5.{Md5}
 use Rattle.md5_layout.specs.Layout.{stateBytes, stateAt, stateLength}
 
 -- a state as the code can hold it: four words, a number of bytes below 2^64, and a block of 64 bytes

@@ -7,9 +7,9 @@ use lib.ListN.{length}
 use Rattle.basis.specs.Choice.{pick}
 use Rattle.basis.specs.Numbers.{handled, shortRecord}
 use Rattle.basis.specs.Bytes.{dwordAt, dwordBytes, qwordAt, qwordBytes, part, over}
-use Rattle.md5.specs.declared.Words.{Words}
-use Rattle.md5.specs.declared.Md5.{Md5}
-use Rattle.md5.specs.Stream.{state}
+use Rattle.md5_rules.specs.declared.Words.{Words}
+use Rattle.md5_rules.specs.declared.Md5.{Md5}
+use Rattle.md5_rules.specs.Stream.{state}
 
 -- ---- the state: 88 bytes
 

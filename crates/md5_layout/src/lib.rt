@@ -2,8 +2,8 @@
 // the layout). Any bytes are some state.
 use basis::number::HANDLED;
 use basis::number::SHORT_RECORD;
-use md5::Md5;
-use md5::Words;
+use md5_rules::Md5;
+use md5_rules::Words;
 ghost use mathlib.Core.Path.{_≡_};
 ghost use Prim.Native.Nat.{_+_, _≤_};
 ghost use lib.ListN.{length};

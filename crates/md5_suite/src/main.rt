@@ -3,7 +3,7 @@
 use libc::STDOUT_FILENO;
 ghost use mathlib.Core.Path.{_≡_};
 ghost use Prim.Native.Nat.{_≤_};
-ghost use Rattle.md5.specs.Md5.{md5Of};
+ghost use Rattle.md5_rules.specs.Md5.{md5Of};
 
 // A hexadecimal digit.
 fn digit(n: u8) -> u8 {

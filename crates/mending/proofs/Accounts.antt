@@ -11,8 +11,8 @@ use borrow.Author.Tests.{lt-ltb, le-ltb, ltb-false}
 use Rattle.basis.specs.Bytes.{over}
 use Rattle.basis.proofs.Choosing.{pick-yes, pick-no, by-cases}
 use Rattle.basis.proofs.Lists.{patched-front}
-use Rattle.capture.specs.Capture.{captureMost}
-use Rattle.capture.specs.Mended.{mendedBytes}
+use Rattle.capture_rules.specs.Capture.{captureMost}
+use Rattle.capture_rules.specs.Mended.{mendedBytes}
 use Rattle.text.specs.Text.{newline, numberText, textAt}
 use Rattle.text.specs.Answers.{written}
 use Rattle.text.proofs.Emitting.{text-within}

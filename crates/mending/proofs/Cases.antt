@@ -2,9 +2,9 @@
 use mathlib.Core.Path.{refl}
 use Rattle.basis.specs.Choice.{pick}
 use Rattle.basis.specs.Bytes.{over, patched}
-use Rattle.capture.specs.Capture.{recordBytes, wrongMark, itemAt}
-use Rattle.capture.specs.Mending.{soundItem, firstSound, mended}
-use Rattle.capture.specs.Mended.{partsFrom, partsOf, recordsIn, mendedBytes}
+use Rattle.capture_rules.specs.Capture.{recordBytes, wrongMark, itemAt}
+use Rattle.capture_rules.specs.Mending.{soundItem, firstSound, mended}
+use Rattle.capture_rules.specs.Mended.{partsFrom, partsOf, recordsIn, mendedBytes}
 use Rattle.text.specs.Text.{figures, numberText, textAt}
 use Rattle.mending.specs.Account.{stretchText, linesOf, toldText, noRoom, mendOf}
 use Rattle.mending.specs.Cases.{MendingCases}

@@ -4,10 +4,10 @@ use native.Mathlib.Omega.{arith}
 use mathlib.Core.Path.{_≡_, refl, sym, ap}
 use mathlib.Core.List.{List, []}
 use lib.ListN.{length}
-use Rattle.capture.specs.Capture.{Item, captureMost}
-use Rattle.capture.specs.Mending.{Part, mended, partAt, placeBehind}
-use Rattle.capture.specs.Mended.{followed, partsFrom, partsOf, recordsIn, mendedBytes}
-use Rattle.capture.proofs.Steps.{ends}
+use Rattle.capture_rules.specs.Capture.{Item, captureMost}
+use Rattle.capture_rules.specs.Mending.{Part, mended, partAt, placeBehind}
+use Rattle.capture_rules.specs.Mended.{followed, partsFrom, partsOf, recordsIn, mendedBytes}
+use Rattle.capture_rules.proofs.Steps.{ends}
 use Rattle.text.proofs.Emitting.{Remaining, whole, complete, onward}
 use Rattle.mending.specs.declared.Reached.{Reached}
 use Rattle.mending.specs.Account.{linesOf, toldText, stretchMost, toldRoom}

@@ -12,14 +12,14 @@ use Rattle.capture.specs.declared.Part as declared-part
 use Rattle.capture.specs.declared.Part.the-variants as variants
 use Rattle.capture.specs.declared.Mended.{Mended}
 use Rattle.capture.specs.Answers.{wrote, partOfCode, mendTold}
-use Rattle.capture.specs.Capture.{Item, captureMost, recordBytes, headerLength, itemAt, partOf}
-use Rattle.capture.specs.Mending.{Part, mended, resumeAt, partAt, placeBehind, Mend, mendAt}
-use Rattle.capture.specs.Mended.{followed, recordsIn}
-use Rattle.capture.specs.Writing.{messageMost, fits, Wrote, writeAt}
-use Rattle.capture.proofs.Steps.{Found, is-found}
-use Rattle.capture.proofs.Records.{length-record}
-use Rattle.capture.proofs.Writes.{written}
-use Rattle.capture.proofs.Mends.{first-above}
+use Rattle.capture_rules.specs.Capture.{Item, captureMost, recordBytes, headerLength, itemAt, partOf}
+use Rattle.capture_rules.specs.Mending.{Part, mended, resumeAt, partAt, placeBehind, Mend, mendAt}
+use Rattle.capture_rules.specs.Mended.{followed, recordsIn}
+use Rattle.capture_rules.specs.Writing.{messageMost, fits, Wrote, writeAt}
+use Rattle.capture_rules.proofs.Steps.{Found, is-found}
+use Rattle.capture_rules.proofs.Records.{length-record}
+use Rattle.capture_rules.proofs.Writes.{written}
+use Rattle.capture_rules.proofs.Mends.{first-above}
 use Rattle.text.specs.Answers.{Emitted}
 use Rattle.text.proofs.Emitting.{nothing}
 use Rattle.mending.specs.declared.Reached.{Reached}

@@ -7,9 +7,9 @@ use lib.ListN.{length}
 use Rattle.basis.specs.Choice.{pick}
 use Rattle.basis.specs.Numbers.{cutShort}
 use Rattle.basis.specs.Bytes.{over}
-use Rattle.capture.specs.Capture.{captureMost}
-use Rattle.capture.specs.Mending.{Part}
-use Rattle.capture.specs.Mended.{partsOf, mendedBytes}
+use Rattle.capture_rules.specs.Capture.{captureMost}
+use Rattle.capture_rules.specs.Mending.{Part}
+use Rattle.capture_rules.specs.Mended.{partsOf, mendedBytes}
 use Rattle.text.specs.Text.{space, newline, numberText, Written, textAt}
 
 -- a stretch passed over, as a line: its start and its length

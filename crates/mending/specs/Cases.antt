@@ -5,7 +5,7 @@ use mathlib.Core.Bool.{true, false}
 use mathlib.Core.List.{List, [], _∷_, _++_}
 use lib.ListN.{take, replicate}
 use Rattle.basis.specs.Cases.{Agree}
-use Rattle.capture.specs.Mending.{Part}
+use Rattle.capture_rules.specs.Mending.{Part}
 use Rattle.mending.specs.Account.{stretchText, linesOf, Account, mendOf}
 
 -- a stretch: its start first, and then its length

@@ -2,9 +2,9 @@
 use Prim.Native.Nat.{ℕ}
 use mathlib.Core.Path.{_≡_}
 use mathlib.Core.List.{List, []}
-use Rattle.capture.specs.Capture.{recordBytes, partOf}
-use Rattle.capture.specs.Mending.{Part, placeBehind}
-use Rattle.capture.specs.Mended.{mendedBytes}
+use Rattle.capture_rules.specs.Capture.{recordBytes, partOf}
+use Rattle.capture_rules.specs.Mending.{Part, placeBehind}
+use Rattle.capture_rules.specs.Mended.{mendedBytes}
 use Rattle.text.specs.Answers.{Emitted}
 use Rattle.mending.specs.declared.Reached.{Reached}
 use Rattle.mending.specs.Account.{stretchText, toldText}

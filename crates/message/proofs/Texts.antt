@@ -4,12 +4,12 @@ use native.Mathlib.Numerals.{add-one}
 use native.Mathlib.Omega.{arith}
 use mathlib.Core.Path.{_≡_}
 use mathlib.Core.Bool.{Bool, true, false, _&&_}
-use mathlib.Core.List.{List}
+use mathlib.Core.List.{List, [], _∷_}
 use lib.Dec.{leb}
 use lib.ListN.{length, drop, getD, drop-of-length-le}
 use lib.Seq.{drop-cons}
 use borrow.Author.Tests.{eq-eqb, ne-eqb}
-use Rattle.basis.proofs.Choosing.{pick-yes, pick-no}
+use Rattle.basis.proofs.Choosing.{pick-yes, pick-no, by-cases}
 use Rattle.message.specs.Version.{versionCharacter, front, allZero, goodVersion}
 
 module _ (v : List ℕ) (i : ℕ) where
@@ -53,3 +53,9 @@ module _ (v : List ℕ) (i : ℕ) where
 pub good-by-parts : (v : List ℕ) (n : ℕ) (z : Bool) → length v ≡ 16 → n ≡ front v → z ≡ allZero (drop n v) → (leb 1 n && z) ≡ goodVersion v
 unfolding goodVersion
 good-by-parts v n z e p q = rw (eq-eqb (length v) 16 e, q, p)
+
+-- the text lies within its bytes
+pub front-within : (v : List ℕ) → front v ≤ length v
+unfolding front
+front-within [] = omega arith
+front-within (b ∷ bs) = by-cases (λ (n : ℕ). n ≤ suc (length bs)) (λ _. omega (arith, front-within bs)) (λ _. omega arith)

@@ -14,6 +14,7 @@ pub use recognition::recognise;
 pub use version::good_version;
 pub use version::same_version;
 pub use version::version_at;
+pub use version::version_length;
 
 // The protocol version: what is written as the version byte, and what its lower four bits must be.
 pub const PROTOCOL_VERSION: u8 = 0x01;

@@ -23,8 +23,8 @@ fn version_character(b: u8) -> bool
     letter(b) | (digit(b) | ((b == 0x5F) | ((b == 0x2D) | (b == 0x2E))))
 }
 
-// How many such bytes the text starts with.
-fn front(version: [u8; 16]) -> usize
+// How many such bytes the text starts with: how long it is without its 00.
+pub fn version_length(version: [u8; 16]) -> usize
     ensures { λ r. ⌜ r ≡ front version ⌝ }
 {
     let mut i = 0;
@@ -55,7 +55,7 @@ fn zero_from(version: [u8; 16], at: usize) -> bool
 pub fn good_version(version: [u8; 16]) -> bool
     ensures { λ r. ⌜ r ≡ goodVersion version ⌝ }
 {
-    let n = front(version);
+    let n = version_length(version);
     (1 <= n) & zero_from(version, n)
 }
 

@@ -1,7 +1,7 @@
 // What the calls of both ends share: answers as one number, and version texts as hosts give them.
 ghost use mathlib.Core.Path.{_≡_};
 ghost use Prim.Native.Nat.{_<_};
-ghost use Rattle.pcp.specs.Exports.{packed, textOf};
+ghost use Rattle.exports.specs.Exports.{packed, textOf};
 
 // A number and the length of a reply, as one number.
 pub(crate) fn packed(number: u8, length: usize) -> u32

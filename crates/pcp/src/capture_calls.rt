@@ -2,10 +2,10 @@
 // capture is the bytes between its place and the next one.
 use capture::Step;
 ghost use mathlib.Core.Path.{_≡_};
-ghost use Rattle.capture.specs.Capture.{itemAt, walkAt};
-ghost use Rattle.capture.specs.Mending.{mendAt};
+ghost use Rattle.capture_rules.specs.Capture.{itemAt, walkAt};
+ghost use Rattle.capture_rules.specs.Mending.{mendAt};
 ghost use Rattle.capture.specs.Answers.{itemOf};
-ghost use Rattle.pcp.specs.Captures.{kindOf, captureWriteOf};
+ghost use Rattle.exports.specs.Captures.{kindOf, captureWriteOf};
 
 // Kinds of items; 20 and 21 are others.
 const END: u8 = 0;

@@ -5,7 +5,7 @@ use basis::number::HANDLED;
 use basis::number::SHORT_RECORD;
 use device::Device;
 ghost use mathlib.Core.Path.{_≡_};
-ghost use Rattle.pcp.specs.Exports.{deviceNewOf, deviceReceiveOf, deviceNextMessageOf, deviceInstallFinishedOf, deviceGiveDigestOf};
+ghost use Rattle.exports.specs.Exports.{deviceNewOf, deviceReceiveOf, deviceNextMessageOf, deviceInstallFinishedOf, deviceGiveDigestOf};
 
 // A fresh device that runs a version.
 #[no_mangle]

@@ -6,7 +6,7 @@ use basis::number::HANDLED;
 use basis::number::SHORT_RECORD;
 use gateway::Gateway;
 ghost use mathlib.Core.Path.{_≡_};
-ghost use Rattle.pcp.specs.Exports.{gatewayStartOf, gatewayReceiveOf, gatewayNextMessageOf};
+ghost use Rattle.exports.specs.Exports.{gatewayStartOf, gatewayReceiveOf, gatewayNextMessageOf};
 
 // A gateway for a package.
 #[no_mangle]

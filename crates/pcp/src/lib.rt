@@ -10,7 +10,7 @@ mod md5_calls;
 ghost use mathlib.Core.Path.{_≡_};
 ghost use Rattle.checksum.specs.Check.{checkOf, messageCheck};
 ghost use Rattle.message.specs.Recognition.{recognition};
-ghost use Rattle.pcp.specs.Exports.{fact};
+ghost use Rattle.exports.specs.Exports.{fact};
 
 // The check of any bytes.
 #[no_mangle]

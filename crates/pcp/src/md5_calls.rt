@@ -3,7 +3,7 @@
 use basis::number::HANDLED;
 use basis::number::SHORT_RECORD;
 ghost use mathlib.Core.Path.{_≡_};
-ghost use Rattle.pcp.specs.Digests.{md5DigestOf, md5NewOf, md5FeedOf, md5FinishOf};
+ghost use Rattle.exports.specs.Digests.{md5DigestOf, md5NewOf, md5FeedOf, md5FinishOf};
 
 const DIGEST_LENGTH: usize = 16;
 

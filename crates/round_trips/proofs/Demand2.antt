@@ -1,5 +1,5 @@
 -- Demand 2: its parts, each proved where its laws stand. Assumes nothing.
-use Rattle.checksum.proofs.Neighbours.{message-neighbours}
+use Rattle.unseen.proofs.Neighbours.{message-neighbours}
 use Rattle.round_trips.specs.Demand2.{Demand2}
 use Rattle.round_trips.proofs.RoundTrip.{device-round-trip, gateway-round-trip}
 use Rattle.round_trips.proofs.Published.{published}

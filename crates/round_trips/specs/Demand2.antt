@@ -6,7 +6,7 @@ use mathlib.Core.Bool.{Bool, true}
 use mathlib.Core.List.{List}
 use lib.ListN.{length, take, getD, set}
 use Rattle.basis.specs.Bytes.{Bytes, over}
-use Rattle.checksum.specs.Neighbours.{Neighbours}
+use Rattle.unseen.specs.Neighbours.{Neighbours}
 use Rattle.message.specs.Recognition.{protocolVersion, recognition}
 use Rattle.message.specs.Messages.{Table, toDevice, toGateway, Reading, found, refused}
 use Rattle.codec.specs.Codec.{sealed, Sent, bytesOf, readOf, writeOf, said}

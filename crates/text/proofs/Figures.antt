@@ -5,11 +5,11 @@ use mathlib.Core.Path.{_≡_, refl, sym, _∙_, ap}
 use mathlib.Core.Bool.{Bool, true, false}
 use mathlib.Core.List.{List, [], _∷_, _++_}
 use lib.Dec.{ltb}
-use lib.ListN.{length, take, drop, length-append, length-drop}
+use lib.ListN.{length, take, drop, getD, length-append, length-drop}
 use lib.Seq.{drop-append-le, take-all}
 use borrow.Author.Tests.{lt-ltb, le-ltb, ltb-true, ltb-false}
 use Rattle.basis.proofs.Choosing.{pick-yes, pick-no, by-cases}
-use Rattle.text.specs.Text.{figures, decimal, numberText}
+use Rattle.text.specs.Text.{figures, decimal, lastFive, numberText}
 
 last-figure : (most n : ℕ) → n < 10 → figures (suc most) n ≡ (48 + n % 10) ∷ []
 unfolding figures
@@ -27,16 +27,17 @@ one-figure n = by-cases (λ (l : List ℕ). l ≡ (48 + n % 10) ∷ []) (λ smal
     more-figure : ltb n 10 ≡ true → (48 + n % 10) ∷ [] ≡ (48 + n) ∷ []
     more-figure small = let h : n < 10 = ltb-true n 10 small in let e : n % 10 ≡ n = omega arith in ap (λ (d : ℕ). (48 + d) ∷ []) e
 
--- a number's five last figures
-abbrev pub five : ℕ → List ℕ
-five n = (48 + n / 10000 % 10) ∷ (48 + n / 1000 % 10) ∷ (48 + n / 100 % 10) ∷ (48 + n / 10 % 10) ∷ (48 + n % 10) ∷ []
+-- the last five figures, found one by one
+pub five-found : (n : ℕ) {a b c d e : ℕ} → a ≡ 48 + n / 10000 % 10 → b ≡ 48 + n / 1000 % 10 → c ≡ 48 + n / 100 % 10 → d ≡ 48 + n / 10 % 10
+    → e ≡ 48 + n % 10 → a ∷ b ∷ c ∷ d ∷ e ∷ [] ≡ lastFive n
+five-found n p q r s t = λ i. p i ∷ q i ∷ r i ∷ s i ∷ t i ∷ []
 
--- the same by dividing by 10 again and again
+-- the last five figures by dividing by 10 again and again
 abbrev by-tens : ℕ → List ℕ
 by-tens n =
     (48 + n / 10 / 10 / 10 / 10 % 10) ∷ (48 + n / 10 / 10 / 10 % 10) ∷ (48 + n / 10 / 10 % 10) ∷ (48 + n / 10 % 10) ∷ (48 + n % 10) ∷ []
 
-five-by-tens : (n : ℕ) → by-tens n ≡ five n
+five-by-tens : (n : ℕ) → by-tens n ≡ lastFive n
 five-by-tens n =
     let a : n / 10 / 10 ≡ n / 100 = omega arith in
     let b : n / 10 / 10 / 10 ≡ n / 1000 = omega arith in
@@ -45,10 +46,10 @@ five-by-tens n =
 
 -- so many zeros stand before the number
 abbrev pub Zeros : (n zeros : ℕ) → Type 0
-Zeros n zeros = (zeros ≤ 4) × (decimal n ≡ drop zeros (five n))
+Zeros n zeros = (zeros ≤ 4) × (decimal n ≡ drop zeros (lastFive n))
 
 module _ (n : ℕ) where
-  dropped : (k : ℕ) → decimal n ≡ drop k (by-tens n) → decimal n ≡ drop k (five n)
+  dropped : (k : ℕ) → decimal n ≡ drop k (by-tens n) → decimal n ≡ drop k (lastFive n)
   dropped k e = e ∙ ap (drop k) (five-by-tens n)
 
   pub units : n < 10 → Zeros n 4
@@ -85,7 +86,7 @@ module _ (n : ℕ) where
   )
 
   pub zeros-counted : {zeros : ℕ} → Zeros n zeros → zeros ≡ 5 - length (decimal n)
-  zeros-counted {zeros} z = let e : length (decimal n) ≡ 5 - zeros = ap length (z .1) ∙ length-drop zeros (five n) in omega (arith, z .0)
+  zeros-counted {zeros} z = let e : length (decimal n) ≡ 5 - zeros = ap length (z .1) ∙ length-drop zeros (lastFive n) in omega (arith, z .0)
 
   split : {A : Type 0} (m : ℕ) → (n < m → A) → (m ≤ n → A) → A
   split {A} m below above = by-test (ltb n m) refl
@@ -94,24 +95,35 @@ module _ (n : ℕ) where
       by-test true e = below (ltb-true n m e)
       by-test false e = above (ltb-false n m e)
 
-  pub number-shown : (zeros end : ℕ) → zeros ≡ 5 - length (decimal n) → take (6 - zeros) (drop zeros (five n ++ (end ∷ []))) ≡ numberText n end
+  pub decimal-shown : (zeros : ℕ) → zeros ≡ 5 - length (decimal n) → take (5 - zeros) (drop zeros (lastFive n)) ≡ decimal n
+  decimal-shown zeros e =
+      split 10 (λ a. shown (units a)) (λ a. split 100 (λ b. shown (tens a b)) (λ b. split 1000 (λ d. shown (hundreds b d)) (λ d.
+      split 10000 (λ f. shown (thousands d f)) (λ f. shown (all-five f)))))
+    where
+      shown : {k : ℕ} → Zeros n k → take (5 - zeros) (drop zeros (lastFive n)) ≡ decimal n
+      shown {k} z =
+          let s : zeros ≡ k = e ∙ sym (zeros-counted z) in
+          rw (s, z .1) (take-all (5 - k) (drop k (lastFive n)) (simp length-drop (omega (arith, z .0))))
+
+  pub number-shown : (zeros end : ℕ) → zeros ≡ 5 - length (decimal n) → take (6 - zeros) (drop zeros (lastFive n ++ (end ∷ []))) ≡ numberText n end
   unfolding numberText
   number-shown zeros end e =
       split 10 (λ a. shown (units a)) (λ a. split 100 (λ b. shown (tens a b)) (λ b. split 1000 (λ d. shown (hundreds b d)) (λ d.
       split 10000 (λ f. shown (thousands d f)) (λ f. shown (all-five f)))))
     where
-      shown : {k : ℕ} → Zeros n k → take (6 - zeros) (drop zeros (five n ++ (end ∷ []))) ≡ decimal n ++ (end ∷ [])
+      shown : {k : ℕ} → Zeros n k → take (6 - zeros) (drop zeros (lastFive n ++ (end ∷ []))) ≡ decimal n ++ (end ∷ [])
       shown {k} z =
           let s : zeros ≡ k = e ∙ sym (zeros-counted z) in
-          rw (s, z .1, drop-append-le k (five n) (end ∷ []) (omega (arith, z .0)))
-          (take-all (6 - k) (drop k (five n) ++ (end ∷ [])) (simp (length-append, length-drop) (omega (arith, z .0))))
+          rw (s, z .1, drop-append-le k (lastFive n) (end ∷ []) (omega (arith, z .0)))
+          (take-all (6 - k) (drop k (lastFive n) ++ (end ∷ [])) (simp (length-append, length-drop) (omega (arith, z .0))))
 
--- the same of figures found one by one
-pub number-written : (n : ℕ) {a b c d e zeros : ℕ} (end : ℕ) → a ≡ 48 + n / 10000 % 10 → b ≡ 48 + n / 1000 % 10 → c ≡ 48 + n / 100 % 10 → d
-    ≡ 48 + n / 10 % 10 → e ≡ 48 + n % 10
-    → zeros ≡ 5 - length (decimal n) → take (6 - zeros) (drop zeros (a ∷ b ∷ c ∷ d ∷ e ∷ end ∷ [])) ≡ numberText n end
-number-written n {zeros} end p q r s t z =
-    (λ i. take (6 - zeros) (drop zeros (p i ∷ q i ∷ r i ∷ s i ∷ t i ∷ end ∷ []))) ∙ number-shown n zeros end z
+-- the same of figures that were found to be those
+pub number-written : (n : ℕ) {f : List ℕ} {zeros : ℕ} (end : ℕ) → f ≡ lastFive n → zeros ≡ 5 - length (decimal n)
+    → take (6 - zeros) (drop zeros (getD f 0 0 ∷ getD f 1 0 ∷ getD f 2 0 ∷ getD f 3 0 ∷ getD f 4 0 ∷ end ∷ [])) ≡ numberText n end
+number-written n {zeros} end e z = rw e (number-shown n zeros end z)
+
+pub decimal-written : (n : ℕ) {f : List ℕ} {zeros : ℕ} → f ≡ lastFive n → zeros ≡ 5 - length (decimal n) → take (5 - zeros) (drop zeros f) ≡ decimal n
+decimal-written n {zeros} e z = rw e (decimal-shown n zeros z)
 
 -- ---- lengths
 
@@ -120,6 +132,9 @@ unfolding figures
 length-figures zero n = omega arith
 length-figures (suc most) n =
     by-cases (λ (l : List ℕ). length l ≤ suc most) (λ _. omega arith) (λ _. simp length-append (omega (arith, length-figures most (n / 10))))
+
+pub length-decimal : (n : ℕ) → length (decimal n) ≤ 5
+length-decimal n = length-figures 5 n
 
 pub length-number : (n end : ℕ) → length (numberText n end) ≤ 6
 unfolding numberText

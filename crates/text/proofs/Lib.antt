@@ -1,3 +1,5 @@
 pub mod Emitting
+pub mod Fronting
 pub mod Figures
+pub mod HexFigures
 pub mod Cases

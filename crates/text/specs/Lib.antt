@@ -1,3 +1,4 @@
 pub mod Text
+pub mod Ascii
 pub mod Answers
 pub mod Cases

@@ -1,10 +1,10 @@
--- Numbers as text, and text in a buffer. Assumes nothing.
+-- Numbers and bytes as text, and text in a buffer. Assumes nothing.
 use Prim.Native.Nat.{ℕ, zero, suc, _+_, _/_, _%_}
 use mathlib.Core.List.{List, [], _∷_, _++_}
 use lib.Dec.{leb, ltb}
 use lib.ListN.{length}
 use Rattle.basis.specs.Choice.{pick}
-use Rattle.basis.specs.Bytes.{patched}
+use Rattle.basis.specs.Bytes.{patched, over}
 
 abbrev pub space : ℕ
 space = 0x20
@@ -21,9 +21,23 @@ figures (suc most) n = pick (ltb n 10) ((0x30 + n) ∷ []) (figures most (n / 10
 abbrev pub decimal : ℕ → List ℕ
 decimal n = figures 5 n
 
+-- its last five figures, with the zeros before it
+abbrev pub lastFive : ℕ → List ℕ
+lastFive n = (0x30 + n / 10000 % 10) ∷ (0x30 + n / 1000 % 10) ∷ (0x30 + n / 100 % 10) ∷ (0x30 + n / 10 % 10) ∷ (0x30 + n % 10) ∷ []
+
 -- a number, and the character behind it
 unfoldable pub numberText : (n end : ℕ) → List ℕ
 numberText n end = decimal n ++ (end ∷ [])
+
+-- ---- bytes in hex
+
+-- upper-case hex: 0 to 9, A to F
+unfoldable pub hexFigure : ℕ → ℕ
+hexFigure d = pick (ltb d 10) (0x30 + d) (0x37 + d)
+
+unfoldable pub hex : List ℕ → List ℕ
+hex [] = []
+hex (b ∷ bs) = hexFigure (b / 16) ∷ hexFigure (b % 16) ∷ hex bs
 
 -- ---- in a buffer
 
@@ -38,3 +52,10 @@ textAt text buffer at =
     pick (leb (at + length text) (length buffer))
     (record { at = at + length text; buffer = patched at text buffer })
     (record { at = at; buffer = buffer })
+
+-- the text at the front of a buffer, whose rest stays, and how long it is; in a buffer of fewer bytes than `room` nothing is written, and that is 0
+unfoldable pub fronted : (room : ℕ) (text buffer : List ℕ) → Written
+fronted room text buffer =
+    pick (ltb (length buffer) room)
+    (record { at = 0; buffer = buffer })
+    (record { at = length text; buffer = over text buffer })

@@ -1,10 +1,13 @@
 // Text into a buffer, from a place on; each function answers the place behind what it wrote. Text that
 // has no room there is not written, and the place stands.
+mod hex;
+
+pub use hex::put_hex;
 ghost use mathlib.Core.Path.{_≡_};
 ghost use Prim.Native.Nat.{_+_, _-_, _%_};
 ghost use lib.Dec.{leb};
 ghost use lib.ListN.{length};
-ghost use Rattle.text.specs.Text.{decimal, numberText, textAt};
+ghost use Rattle.text.specs.Text.{lastFive, decimal, numberText, textAt};
 ghost use Rattle.text.specs.Answers.{written};
 
 // So many bytes have room in a buffer of this size, from a place on.
@@ -50,17 +53,32 @@ fn zeros(n: usize) -> usize
     if n < 10000 { 1 } else { 0 }
 }
 
-// A number in decimal, and a character behind it. Of a number from 100,000 on, its last five figures.
-pub fn put_number(out: &mut [u8], at: usize, n: usize, end: u8) -> usize
-    ensures { λ r. ⌜ written r (now (out .exit)) ≡ textAt (numberText n end) (now (out .entry)) at ⌝ }
+// A number's last five figures, with the zeros before it.
+fn last_five(n: usize) -> [u8; 5]
+    ensures { λ r. ⌜ r ≡ lastFive n ⌝ }
 {
-    let text = [
+    [
         figure(n / 10000),
         figure(n / 1000),
         figure(n / 100),
         figure(n / 10),
         figure(n),
-        end,
-    ];
+    ]
+}
+
+// A number in decimal, with nothing behind it. Of a number from 100,000 on, its last five figures.
+pub fn put_decimal(out: &mut [u8], at: usize, n: usize) -> usize
+    ensures { λ r. ⌜ written r (now (out .exit)) ≡ textAt (decimal n) (now (out .entry)) at ⌝ }
+{
+    let five = last_five(n);
+    put_text(out, at, &five[zeros(n)..5])
+}
+
+// The same, and a character behind it.
+pub fn put_number(out: &mut [u8], at: usize, n: usize, end: u8) -> usize
+    ensures { λ r. ⌜ written r (now (out .exit)) ≡ textAt (numberText n end) (now (out .entry)) at ⌝ }
+{
+    let five = last_five(n);
+    let text = [five[0], five[1], five[2], five[3], five[4], end];
     put_text(out, at, &text[zeros(n)..6])
 }

@@ -7,11 +7,10 @@ use mathlib.Core.Bool.{Bool, true, false}
 use mathlib.Core.List.{List, [], _++_}
 use lib.ListN.{length}
 use Rattle.basis.specs.Choice.{pick}
-use Rattle.device.specs.Rules.{After}
-use Rattle.capture.specs.Capture.{itemAt, placeAfter}
-use Rattle.capture.proofs.Steps.{ends}
-use Rattle.transcript.specs.Transcript.{after, printed, goesOn, textFrom}
-use Rattle.transcript.proofs.Runs.{Past, past-record}
+use Rattle.device_rules.specs.Rules.{After}
+use Rattle.capture_rules.specs.Capture.{itemAt, placeAfter, goesOn}
+use Rattle.capture_rules.proofs.Steps.{ends, Past, past-record}
+use Rattle.transcript.specs.Transcript.{after, printed, textFrom}
 
 -- nothing is printed at the end, however many turns are left
 at-end : (capture : List ℕ) (most number at : ℕ) (s : After) → length capture ≤ at → textFrom capture most number at s ≡ []

@@ -1,11 +1,11 @@
--- A line, piece by piece: the room that it leaves each, and the whole. Assumes nothing.
+-- A line, piece by piece. Assumes nothing.
 use Prim.Native.Nat.{ℕ, _+_, _≤_}
 use mathlib.Core.Path.{_≡_}
 use mathlib.Core.List.{List, [], _∷_, _++_}
 use lib.ListN.{length}
 use Rattle.text.specs.Text.{space, newline, numberText, textAt}
 use Rattle.text.specs.Answers.{written, Emitted}
-use Rattle.text.proofs.Emitting.{Remaining, whole, onward, room, past, last}
+use Rattle.text.proofs.Emitting.{Remaining, whole, past, last}
 use Rattle.transcript.specs.Line.{replyText, lineText}
 
 module _ (number outcome phase : ℕ) (reply before : List ℕ) (at : ℕ) (fits : at + length (lineText number outcome phase reply) ≤ length before) where
@@ -33,10 +33,6 @@ module _ (number outcome phase : ℕ) (reply before : List ℕ) (at : ℕ) (fits
         past _ before at fits (numberText phase space) left₃
         (past _ before at fits (numberText outcome space) left₂ (past _ before at fits (numberText number space) left₁ behind₀ w₁) w₂) w₃
 
-    pub reply-room : p₃ + length (replyText reply) ≤ length o₃
-    reply-room = room _ before at fits (replyText reply) (newline ∷ []) behind₃
-
-    pub line-whole : {o₄ o₅ : List ℕ} {p₄ p₅ : ℕ} → Emitted (replyText reply) o₃ p₃ o₄ p₄ → written p₅ o₅ ≡ textAt (newline ∷ []) o₄ p₄
+    pub line-whole : {o₄ o₅ : List ℕ} {p₄ p₅ : ℕ} → written p₄ o₄ ≡ textAt (replyText reply) o₃ p₃ → written p₅ o₅ ≡ textAt (newline ∷ []) o₄ p₄
         → Emitted (lineText number outcome phase reply) before at o₅ p₅
-    line-whole e₄ w₅ =
-        last _ before at fits (newline ∷ []) (onward _ before at (replyText reply) (newline ∷ []) behind₃ reply-room e₄) w₅
+    line-whole w₄ w₅ = last _ before at fits (newline ∷ []) (past _ before at fits (replyText reply) (newline ∷ []) behind₃ w₄) w₅

@@ -3,19 +3,19 @@ use Prim.Native.Nat.{ℕ, suc, _+_, _-_, _*_, _≤_, _<_}
 use native.Mathlib.Nat.{sub-zero}
 use native.Mathlib.Omega.{arith}
 use mathlib.Core.Path.{_≡_, refl, sym, _∙_, ap}
-use mathlib.Core.Bool.{true, false, not, false≢true}
+use mathlib.Core.Bool.{true, false, not}
 use mathlib.Core.List.{List, [], _++_}
 use lib.ListN.{length, take, length-take}
 use borrow.Author.Tests.{not-true, not-false}
 use Rattle.basis.specs.Choice.{pick}
 use Rattle.basis.proofs.Choosing.{pick-yes, pick-no}
-use Rattle.device.specs.declared.Answer.{Answer}
-use Rattle.device.specs.Rules.{After}
-use Rattle.device.specs.Answers.{afterCall}
-use Rattle.capture.specs.Capture.{captureMost, Item, itemAt, placeAfter, headerLength}
-use Rattle.capture.proofs.Steps.{Found, is-found}
+use Rattle.device_rules.specs.declared.Answer.{Answer}
+use Rattle.device_rules.specs.Rules.{After}
+use Rattle.device_rules.specs.Answers.{afterCall}
+use Rattle.capture_rules.specs.Capture.{captureMost, Item, itemAt, placeAfter, goesOn, headerLength}
+use Rattle.capture_rules.proofs.Steps.{Past, past-record}
 use Rattle.transcript.specs.declared.Turn.{Turn}
-use Rattle.transcript.specs.Transcript.{replyLength, after, printed, goesOn, textFrom, lineMost, outRoom}
+use Rattle.transcript.specs.Transcript.{replyLength, after, printed, textFrom, lineMost, outRoom}
 use Rattle.transcript.specs.Answers.{Turned}
 use Rattle.text.specs.Answers.{Emitted}
 use Rattle.text.proofs.Emitting.{Remaining, whole, complete, onward}
@@ -29,18 +29,6 @@ printed-fits number (Item.found true start count) t e =
 printed-fits number (Item.found false start count) t e = omega arith
 printed-fits number Item.end t e = omega arith
 printed-fits number (Item.fault fault) t e = length-fault fault
-
--- a record takes four bytes or more, and ends within the capture
-pub record Past (capture : List ℕ) (at next : ℕ) : Type 0 where
-  pub past : at + headerLength ≤ next
-  pub within : next ≤ length capture
-
-pub past-record : (capture : List ℕ) (at : ℕ) (item : Item) → itemAt capture at ≡ item → goesOn item ≡ true → Past capture at (placeAfter item at)
-unfolding goesOn
-past-record capture at (Item.found toDevice start count) e m =
-    let f : Found capture at toDevice start count = is-found capture at e in record { past = omega (arith, f .behind); within = f .within }
-past-record capture at Item.end e m = absurd (false≢true m)
-past-record capture at (Item.fault number) e m = absurd (false≢true m)
 
 module _ (capture : List ℕ) where
   abbrev all : ℕ

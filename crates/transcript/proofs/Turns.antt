@@ -5,21 +5,21 @@ use mathlib.Core.Path.{_≡_, refl, sym, _∙_, ap, subst}
 use mathlib.Core.Bool.{Bool, true, false}
 use mathlib.Core.List.{List}
 use lib.ListN.{length, take, length-take}
-use Rattle.device.specs.declared.Answer.{Answer}
+use Rattle.device_rules.specs.declared.Answer.{Answer}
 use Rattle.basis.proofs.Lists.{take-min}
-use Rattle.device.specs.Rules.{After, receiveOf}
-use Rattle.device.specs.Answers.{afterCall}
+use Rattle.device_rules.specs.Rules.{After, receiveOf}
+use Rattle.device_rules.specs.Answers.{afterCall}
 use Rattle.capture.specs.declared.Step.{Step}
 use Rattle.capture.specs.declared.Step.the-variants.{Record, End, Fault}
 use Rattle.capture.specs.declared.Walked.{Walked}
-use Rattle.capture.specs.Capture.{Item, itemAt, placeAfter, Walk, walkAt, partOf}
+use Rattle.capture_rules.specs.Capture.{Item, itemAt, placeAfter, goesOn, Walk, walkAt, partOf}
 use Rattle.capture.specs.Answers.{itemOf, told}
 use Rattle.transcript.specs.declared.Turn.{Turn}
 use Rattle.text.specs.Text.{newline, numberText, textAt}
 use Rattle.text.specs.Answers.{written, Emitted}
 use Rattle.text.proofs.Emitting.{emitted, nothing}
 use Rattle.transcript.specs.Line.{lineText}
-use Rattle.transcript.specs.Transcript.{replyLength, given, line, after, printed, goesOn, lineMost}
+use Rattle.transcript.specs.Transcript.{replyLength, given, line, after, printed, lineMost}
 use Rattle.transcript.specs.Answers.{Given, Turned}
 use Rattle.transcript.proofs.Figures.{length-line, length-fault}
 

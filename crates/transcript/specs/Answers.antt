@@ -3,12 +3,12 @@ use Prim.Native.Nat.{ℕ}
 use mathlib.Core.Path.{_≡_}
 use mathlib.Core.Bool.{true}
 use mathlib.Core.List.{List}
-use Rattle.device.specs.Rules.{After}
-use Rattle.device.specs.Answers.{afterCall}
-use Rattle.capture.specs.Capture.{Item, placeAfter}
+use Rattle.device_rules.specs.Rules.{After}
+use Rattle.device_rules.specs.Answers.{afterCall}
+use Rattle.capture_rules.specs.Capture.{Item, placeAfter, goesOn}
 use Rattle.text.specs.Answers.{Emitted}
 use Rattle.transcript.specs.declared.Turn.{Turn}
-use Rattle.transcript.specs.Transcript.{given, line, after, printed, goesOn, Replayed}
+use Rattle.transcript.specs.Transcript.{given, line, after, printed}
 
 -- what a record toward the device leaves: the device that was given its message, and its line
 pub record Given (message : List ℕ) (number at : ℕ) (s : After) (before : List ℕ) (end : ℕ) (r : Turn) (image map reply now : List ℕ)
@@ -25,7 +25,3 @@ pub record Turned (capture : List ℕ) (item : Item) (number at : ℕ) (s : Afte
   pub text : Emitted (printed number item (after capture item s)) before end now (r .end)
   pub place : r .at ≡ placeAfter item at
   pub more : r .more ≡ goesOn item
-
--- what replay answered, with the buffer that it left
-abbrev pub played : ℕ → List ℕ → Replayed
-played n out = record { length = n; out = out }

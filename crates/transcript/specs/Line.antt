@@ -1,17 +1,7 @@
--- Bytes in hex, and a line of replay: 01, "Capture and replay". Assumes nothing.
-use Prim.Native.Nat.{ℕ, _+_, _/_, _%_}
+-- A line of replay: 01, "Capture and replay". Assumes nothing.
+use Prim.Native.Nat.{ℕ}
 use mathlib.Core.List.{List, [], _∷_, _++_}
-use lib.Dec.{ltb}
-use Rattle.basis.specs.Choice.{pick}
-use Rattle.text.specs.Text.{space, newline, numberText}
-
--- upper-case hex: 0 to 9, A to F
-unfoldable pub hexFigure : ℕ → ℕ
-hexFigure d = pick (ltb d 10) (0x30 + d) (0x37 + d)
-
-unfoldable pub hex : List ℕ → List ℕ
-hex [] = []
-hex (b ∷ bs) = hexFigure (b / 16) ∷ hexFigure (b % 16) ∷ hex bs
+use Rattle.text.specs.Text.{space, newline, numberText, hex}
 
 -- a reply in hex, or "-" where there is none
 unfoldable pub replyText : List ℕ → List ℕ

@@ -1,17 +1,16 @@
 -- What replay prints for a capture: 01, "Capture and replay". Assumes nothing.
 use Prim.Native.Nat.{ℕ, zero, suc, _+_, _*_, _/_}
-use mathlib.Core.Bool.{Bool, true, false}
+use mathlib.Core.Bool.{true, false}
 use mathlib.Core.List.{List, [], _∷_, _++_}
 use lib.Dec.{ltb}
 use lib.ListN.{length, take, replicate}
 use Rattle.basis.specs.Choice.{pick}
 use Rattle.basis.specs.Numbers.{cutShort}
-use Rattle.basis.specs.Bytes.{over}
 use Rattle.device_record.specs.declared.Device.{Device}
 use Rattle.device_record.specs.Record.{newOf}
-use Rattle.device.specs.Rules.{After, receiveOf}
-use Rattle.capture.specs.Capture.{captureMost, Item, headerLength, itemAt, placeAfter, partOf}
-use Rattle.text.specs.Text.{newline, numberText}
+use Rattle.device_rules.specs.Rules.{After, receiveOf}
+use Rattle.capture_rules.specs.Capture.{captureMost, Item, headerLength, itemAt, placeAfter, goesOn, partOf}
+use Rattle.text.specs.Text.{newline, numberText, Written, fronted}
 use Rattle.transcript.specs.Line.{lineText}
 
 -- a 16,384-byte image, a 64-byte map, a 26-byte reply buffer
@@ -58,12 +57,6 @@ printed number (Item.found false start count) s = []
 printed number Item.end s = []
 printed number (Item.fault fault) s = numberText fault newline
 
--- a record is followed by what stands behind it; the end, 20 and 21 by nothing
-unfoldable pub goesOn : Item → Bool
-goesOn (Item.found toDevice start count) = true
-goesOn Item.end = false
-goesOn (Item.fault number) = false
-
 -- what is printed from a place on, so many records having been counted before it. A record has bytes, so that there are fewer
 -- of them than `most`
 unfoldable pub textFrom : (capture : List ℕ) (most number at : ℕ) → After → List ℕ
@@ -88,14 +81,6 @@ lineMost = 71
 abbrev pub outRoom : ℕ
 outRoom = lineMost * (captureMost / headerLength + 1)
 
--- how many bytes of the buffer are text, and the buffer
-pub record Replayed : Type 0 where
-  pub length : ℕ
-  pub out : List ℕ
-
 -- the text fills the front of the buffer and the rest stays; in a buffer that is too short nothing is written
-unfoldable pub replayOf : (capture out : List ℕ) → Replayed
-replayOf capture out =
-    pick (ltb (length out) outRoom)
-    (record { length = 0; out = out })
-    (record { length = length (replayText capture); out = over (replayText capture) out })
+unfoldable pub replayOf : (capture out : List ℕ) → Written
+replayOf capture out = fronted outRoom (replayText capture) out

@@ -11,11 +11,11 @@ ghost use mathlib.Core.Path.{_≡_};
 ghost use mathlib.Core.Bool.{false};
 ghost use Prim.Native.Nat.{suc, _+_, _≤_};
 ghost use lib.ListN.{length};
-ghost use Rattle.device.specs.Answers.{afterCall};
-ghost use Rattle.capture.specs.Capture.{captureMost, itemAt};
-ghost use Rattle.text.specs.Answers.{Emitted};
+ghost use Rattle.device_rules.specs.Answers.{afterCall};
+ghost use Rattle.capture_rules.specs.Capture.{captureMost, itemAt};
+ghost use Rattle.text.specs.Answers.{written, Emitted};
 ghost use Rattle.transcript.specs.Transcript.{replyLength, textFrom, lineMost, outRoom, replayOf};
-ghost use Rattle.transcript.specs.Answers.{Given, Turned, played};
+ghost use Rattle.transcript.specs.Answers.{Given, Turned};
 
 // The device's buffers, and the version that it runs: V0.9.
 const IMAGE_LENGTH: usize = 16384;
@@ -176,7 +176,7 @@ fn run(
 // Writes what replay prints for a capture to the front of out, and answers how long that is. Where
 // out has fewer than OUT_ROOM bytes nothing is written, and the answer is 0.
 pub fn replay(capture: &[u8], out: &mut [u8]) -> usize
-    ensures { λ r. ⌜ played r (now (out .exit)) ≡ replayOf (now (capture .entry)) (now (out .entry)) ⌝ }
+    ensures { λ r. ⌜ written r (now (out .exit)) ≡ replayOf (now (capture .entry)) (now (out .entry)) ⌝ }
 {
     if out.len() < OUT_ROOM {
         return 0;

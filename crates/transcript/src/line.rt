@@ -1,47 +1,17 @@
 // A line of replay, into a buffer from a place on; each function answers the place behind what it wrote.
+use text::put_hex;
 use text::put_number;
 use text::put_text;
 ghost use mathlib.Core.Path.{_≡_};
-ghost use mathlib.Core.List.{[], _∷_};
-ghost use Prim.Native.Nat.{_+_, _%_, _/_, _≤_, _<_};
+ghost use Prim.Native.Nat.{_+_, _≤_};
 ghost use lib.ListN.{length};
-ghost use Rattle.text.specs.Answers.{Emitted};
-ghost use Rattle.transcript.specs.Line.{hexFigure, hex, replyText, lineText};
-
-// Upper-case hex.
-fn hex_figure(d: u8) -> u8
-    requires { ⌜ d < 16 ⌝ }
-    ensures { λ r. ⌜ r ≡ hexFigure d ⌝ }
-{
-    if d < 10 { b'0' + d } else { b'A' - 10 + d }
-}
-
-fn put_hex(out: &mut [u8], at: usize, bytes: &[u8]) -> usize
-    requires { ⌜ at + length (hex (now bytes)) ≤ length (now out) ⌝ }
-    ensures { λ r. ⌜ Emitted (hex (now (bytes .entry))) (now (out .entry)) at (now (out .exit)) r ⌝ }
-{
-    let mut end = at;
-    let mut i = 0;
-    while i < bytes.len() {
-        end = put_byte(out, end, bytes[i]);
-        i += 1;
-    }
-    end
-}
-
-// A byte in hex.
-fn put_byte(out: &mut [u8], at: usize, b: u8) -> usize
-    requires { ⌜ at + 2 ≤ length (now out) ⌝ }
-    ensures { λ r. ⌜ Emitted (hexFigure (b / 16) ∷ hexFigure (b % 16) ∷ []) (now (out .entry)) at (now (out .exit)) r ⌝ }
-{
-    let text = [hex_figure(b / 16), hex_figure(b % 16)];
-    put_text(out, at, &text)
-}
+ghost use Rattle.text.specs.Text.{textAt};
+ghost use Rattle.text.specs.Answers.{written, Emitted};
+ghost use Rattle.transcript.specs.Line.{replyText, lineText};
 
 // A reply in hex, or "-" where there is none.
 fn put_reply(out: &mut [u8], at: usize, reply: &[u8]) -> usize
-    requires { ⌜ at + length (replyText (now reply)) ≤ length (now out) ⌝ }
-    ensures { λ r. ⌜ Emitted (replyText (now (reply .entry))) (now (out .entry)) at (now (out .exit)) r ⌝ }
+    ensures { λ r. ⌜ written r (now (out .exit)) ≡ textAt (replyText (now (reply .entry))) (now (out .entry)) at ⌝ }
 {
     if reply.len() == 0 {
         put_text(out, at, b"-")

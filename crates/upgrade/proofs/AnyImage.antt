@@ -15,15 +15,15 @@ use Rattle.codec.specs.Codec.{said}
 use Rattle.message.specs.declared.Fields.{Fields}
 use Rattle.device_record.specs.declared.Device.{Device}
 use Rattle.device_record.specs.Record.{idle, loading, installing, holding, inPhase, recordOk, memoryOk}
-use Rattle.device.specs.Rules.{After, announceResult, resumes, receiveOf, nextMessageOf, installFinishedOf}
-use Rattle.device.proofs.Holds.{Rule}
-use Rattle.device.proofs.Views
-use Rattle.device.proofs.Views.{receive-does, install-does}
-use Rattle.device.proofs.Sound.{Download, Sound, sound-record, sound-room, sound-under, sound-begun, sound-stored, sound-differs, sound-digest}
-use Rattle.device.proofs.Sound.{sound-idle, sound-moved}
-use Rattle.device.proofs.Sound.{sound-executed, sound-outcome, sound-does}
-use Rattle.device.proofs.Not29Not14.{heard-neither, ask-neither, install-neither}
-use Rattle.device.proofs.Guarded.{asking-passed, receiving-passed}
+use Rattle.device_rules.specs.Rules.{After, announceResult, resumes, receiveOf, nextMessageOf, installFinishedOf}
+use Rattle.device_rules.proofs.Holds.{Rule}
+use Rattle.device_rules.proofs.Views
+use Rattle.device_rules.proofs.Views.{receive-does, install-does}
+use Rattle.device_rules.proofs.Sound.{Download, Sound, sound-record, sound-room, sound-under, sound-begun, sound-stored, sound-differs, sound-digest}
+use Rattle.device_rules.proofs.Sound.{sound-idle, sound-moved}
+use Rattle.device_rules.proofs.Sound.{sound-executed, sound-outcome, sound-does}
+use Rattle.device_rules.proofs.Not29Not14.{heard-neither, ask-neither, install-neither}
+use Rattle.device_rules.proofs.Guarded.{asking-passed, receiving-passed}
 use Rattle.upgrade.specs.Records.{deviceDigestAnswer}
 use Rattle.upgrade.proofs.DeviceCalls.{digest-given-does, digest-given-neither}
 

@@ -17,11 +17,11 @@ use Rattle.message.specs.Version.{goodVersion}
 use Rattle.message.specs.Messages.{DeviceMessage, query, announce, fragment, downloadReply, execute, resultReply, Reading, found, refused}
 use Rattle.device_record.specs.declared.Made.{Made}
 use Rattle.device_record.specs.Record.{idle, loaded, acked, fresh, newOf}
-use Rattle.device.specs.Rules.{announceResult, resumes}
-use Rattle.device.proofs.Views
-use Rattle.device.proofs.Views.{Input, hears, asks, installs, digests, Out}
-use Rattle.device.proofs.Sound.{sound-fresh, sound-begun, sound-stored, sound-differs, sound-digest, sound-moved, sound-executed, sound-outcome}
-use Rattle.device.proofs.Standing.{standing, standing-under, stored-new}
+use Rattle.device_rules.specs.Rules.{announceResult, resumes}
+use Rattle.device_rules.proofs.Views
+use Rattle.device_rules.proofs.Views.{Input, hears, asks, installs, digests, Out}
+use Rattle.device_rules.proofs.Sound.{sound-fresh, sound-begun, sound-stored, sound-differs, sound-digest, sound-moved, sound-executed, sound-outcome}
+use Rattle.device_rules.proofs.Standing.{standing, standing-under, stored-new}
 use Rattle.upgrade.specs.Fold.{after}
 use Rattle.upgrade.specs.Calls.{DeviceCall, given, asked, finished, digestGiven}
 use Rattle.upgrade.specs.Records.{DeviceEnd, deviceNext}

@@ -18,12 +18,12 @@ use Rattle.codec.proofs.Frames.{length-frame}
 use Rattle.round_trips.proofs.RoundTrip.{device-round-trip, gateway-round-trip}
 use Rattle.device_record.specs.Record.{conditionOk}
 use Rattle.device_record.specs.Record as device
-use Rattle.device.specs.Rules as device-rules
-use Rattle.device.proofs.Standing.{standing}
-use Rattle.device.proofs.Sound.{sound-record, sound-room}
+use Rattle.device_rules.specs.Rules as device-rules
+use Rattle.device_rules.proofs.Standing.{standing}
+use Rattle.device_rules.proofs.Sound.{sound-record, sound-room}
 use Rattle.gateway_record.specs.declared.Gateway.{Gateway}
 use Rattle.gateway_record.specs.Record as gateway
-use Rattle.gateway.specs.Rules as gateway-rules
+use Rattle.gateway_rules.specs.Rules as gateway-rules
 use Rattle.upgrade.specs.Calls.{aired, DeviceCall, given, asked, GatewayCall, atDevice, atGateway, next}
 use Rattle.upgrade.specs.Records.{DeviceEnd, deviceAnswer, deviceNext, World, records, deviceDoes, gatewayDoes}
 use Rattle.upgrade.proofs.Ends.{deviceSays, gatewaySays}

@@ -15,7 +15,7 @@ use Rattle.device_record.specs.Record.{mapBytes}
 use Rattle.bitmap.specs.Bitmap.{marked, mark, cleared, lowestMissing}
 use Rattle.bitmap.proofs.Bitmaps.{mark-same, mark-other, length-mark, cleared-none, length-cleared, lowest-unique}
 use Rattle.device_record.proofs.Maps.{mapBytes-cover, byte-within}
-use Rattle.device.proofs.Images.{place-within}
+use Rattle.device_rules.proofs.Images.{place-within}
 use Rattle.gateway_record.specs.Record.{totalOf, fragmentOf}
 use Rattle.gateway_record.proofs.Package.{total-covers, below-total, stretch-fits, stretch-some, length-fragment}
 

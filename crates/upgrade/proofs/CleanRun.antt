@@ -15,15 +15,15 @@ use Rattle.checksum.specs.Check.{checkOf}
 use Rattle.checksum.proofs.Register.{check-fits}
 use Rattle.message.specs.Limits.{isWord}
 use Rattle.message.specs.Messages.{GatewayMessage, Reading}
-use Rattle.md5.specs.Md5.{md5Of}
-use Rattle.md5.proofs.Feeding.{digest-length}
+use Rattle.md5_rules.specs.Md5.{md5Of}
+use Rattle.md5_rules.proofs.Feeding.{digest-length}
 use Rattle.device_record.specs.declared.Expected.{Expected}
 use Rattle.device_record.specs.Record.{noDigest, digestSet}
-use Rattle.device.specs.Rules.{checkPasses, digestPasses, passes}
+use Rattle.device_rules.specs.Rules.{checkPasses, digestPasses, passes}
 use Rattle.message.specs.declared.Fields.{Fields}
 use Rattle.gateway_record.specs.declared.Gateway.{Gateway}
 use Rattle.gateway_record.specs.Record as gateway
-use Rattle.gateway.proofs.Views.{Turns, stays, offers, serves, runs, fails, succeeds, received}
+use Rattle.gateway_rules.proofs.Views.{Turns, stays, offers, serves, runs, fails, succeeds, received}
 use Rattle.gateway_record.proofs.Package.{StartedOn, starts, started-fields}
 use Rattle.upgrade.specs.Fold.{after}
 use Rattle.upgrade.specs.Calls.{GatewayCall, Ends}

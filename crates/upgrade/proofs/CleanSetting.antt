@@ -16,7 +16,7 @@ use Rattle.device_record.specs.declared.Device.{Device}
 use Rattle.device_record.specs.declared.Expected.{Expected}
 use Rattle.device_record.specs.Record as device
 use Rattle.bitmap.specs.Bitmap.{cleared}
-use Rattle.device.specs.Rules as device-rules
+use Rattle.device_rules.specs.Rules as device-rules
 use Rattle.gateway_record.specs.declared.Gateway.{Gateway}
 use Rattle.gateway_record.specs.Record as gateway
 use Rattle.gateway_record.proofs.Package.{total-some as some-total, total-most}

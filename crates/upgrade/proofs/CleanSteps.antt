@@ -21,14 +21,14 @@ use Rattle.device_record.specs.declared.Device.{Device}
 use Rattle.device_record.specs.declared.Expected.{Expected}
 use Rattle.device_record.specs.Record as device
 use Rattle.bitmap.specs.Bitmap.{mark}
-use Rattle.device.specs.declared.DigestAnswer.{DigestAnswer}
-use Rattle.device.specs.Rules as device-rules
-use Rattle.device_decisions.proofs.Tested.{new-one}
-use Rattle.device.proofs.Standing.{standing}
-use Rattle.device.proofs.Sound.{sound-record}
+use Rattle.device_rules.specs.declared.DigestAnswer.{DigestAnswer}
+use Rattle.device_rules.specs.Rules as device-rules
+use Rattle.device_rules.proofs.Tested.{new-one}
+use Rattle.device_rules.proofs.Standing.{standing}
+use Rattle.device_rules.proofs.Sound.{sound-record}
 use Rattle.gateway_record.specs.Record as gateway
-use Rattle.gateway_decisions.specs.Decisions as decisions
-use Rattle.gateway.specs.Rules as gateway-rules
+use Rattle.gateway_rules.specs.Decisions as decisions
+use Rattle.gateway_rules.specs.Rules as gateway-rules
 use Rattle.gateway_record.proofs.Package.{stretch-fits}
 use Rattle.upgrade.specs.Calls.{finished, digestGiven, atDevice, next}
 use Rattle.upgrade.specs.Records.{DeviceEnd, deviceDigestAnswer, World, records, deviceDoes}

@@ -8,11 +8,11 @@ use mathlib.Core.List.{List, [], _∷_}
 use Rattle.basis.proofs.Choosing.{by-cases}
 use Rattle.device_record.specs.declared.Made.{Made}
 use Rattle.device_record.specs.Record.{newOf}
-use Rattle.device.proofs.Holds.{Rule}
-use Rattle.device.proofs.Views.{receive-does, install-does}
-use Rattle.device.proofs.Sound.{Sound, sound-fresh, sound-room}
-use Rattle.device.proofs.Standing.{standing, standing-does}
-use Rattle.device.proofs.Not29Not14.{receive-neither, ask-neither, install-neither}
+use Rattle.device_rules.proofs.Holds.{Rule}
+use Rattle.device_rules.proofs.Views.{receive-does, install-does}
+use Rattle.device_rules.proofs.Sound.{Sound, sound-fresh, sound-room}
+use Rattle.device_rules.proofs.Standing.{standing, standing-does}
+use Rattle.device_rules.proofs.Not29Not14.{receive-neither, ask-neither, install-neither}
 use Rattle.upgrade.specs.Fold.{after}
 use Rattle.upgrade.specs.Counted.{Counted, Count, Roomy, Room, lentNext}
 use Rattle.upgrade.specs.Calls.{DeviceCall, given, asked, finished, digestGiven}

@@ -18,16 +18,16 @@ use Rattle.message.specs.Messages.{execute, executeReply, found, toDevice, toGa
 use Rattle.codec.specs.Codec.{sealed, frame, bytesOf}
 use Rattle.device_record.specs.declared.Device.{Device}
 use Rattle.device_record.specs.Record.{idle, loading, loaded, acked, failed}
-use Rattle.device.proofs.Views
-use Rattle.device.proofs.Views.{Input, hears, Out, spoken}
-use Rattle.device.proofs.Standing.{standing, standing-under, package-stands, package-length}
-use Rattle.device.proofs.Sound.{Sound}
+use Rattle.device_rules.proofs.Views
+use Rattle.device_rules.proofs.Views.{Input, hears, Out, spoken}
+use Rattle.device_rules.proofs.Standing.{standing, standing-under, package-stands, package-length}
+use Rattle.device_rules.proofs.Sound.{Sound}
 use Rattle.gateway_record.specs.declared.Gateway.{Gateway}
 use Rattle.gateway_record.specs.Record as gateway
 use Rattle.message.specs.Limits.{sizeOk}
 use Rattle.device_record.proofs.Ranges.{size-range}
-use Rattle.gateway.proofs.Answered.{receive-other, ask-other}
-use Rattle.gateway.proofs.Views.{turned-keeps}
+use Rattle.gateway_rules.proofs.Answered.{receive-other, ask-other}
+use Rattle.gateway_rules.proofs.Views.{turned-keeps}
 use Rattle.gateway_record.proofs.Package.{starts, started-fields, total-covers, below-total, total-some, fragment-is}
 use Rattle.upgrade.specs.Fold.{after, Allowed}
 use Rattle.upgrade.specs.Calls.{DeviceCall, given, asked, finished, GatewayCall, Call, atDevice, atGateway, next, May}

@@ -17,15 +17,15 @@ use Rattle.device_record.specs.declared.Device.{Device}
 use Rattle.device_record.specs.declared.Expected.{Expected}
 use Rattle.device_record.specs.Record.{idle, loading, loaded, acked, failed, installing, holding, inPhase, begun, withOutcome, withDigest, mapBytes}
 use Rattle.bitmap.specs.Bitmap.{cleared}
-use Rattle.device.specs.declared.DigestAnswer.{DigestAnswer}
-use Rattle.device.specs.Rules.{announceResult, completion}
-use Rattle.device.proofs.Holds.{Rule}
-use Rattle.device.proofs.Sound.{Sound}
-use Rattle.device.proofs.Not29Not14.{Neither, give-neither}
-use Rattle.device.proofs.Views
-use Rattle.device.proofs.Views.{Input, hears, asks, installs, digests, Out, out, spoken, storedOut, receiveOut, askOut, installOut}
-use Rattle.device.proofs.Views.{Begins, Resumes, Stores}
-use Rattle.device.proofs.Views.{Repeats, Still, Moves, Does, still, refuses, receive-does, ask-does, install-does, give-does}
+use Rattle.device_rules.specs.declared.DigestAnswer.{DigestAnswer}
+use Rattle.device_rules.specs.Rules.{announceResult, completion}
+use Rattle.device_rules.proofs.Holds.{Rule}
+use Rattle.device_rules.proofs.Sound.{Sound}
+use Rattle.device_rules.proofs.Not29Not14.{Neither, give-neither}
+use Rattle.device_rules.proofs.Views
+use Rattle.device_rules.proofs.Views.{Input, hears, asks, installs, digests, Out, out, spoken, storedOut, receiveOut, askOut, installOut}
+use Rattle.device_rules.proofs.Views.{Begins, Resumes, Stores}
+use Rattle.device_rules.proofs.Views.{Repeats, Still, Moves, Does, still, refuses, receive-does, ask-does, install-does, give-does}
 use Rattle.upgrade.specs.Calls.{DeviceCall, given, asked, finished, digestGiven, aired}
 use Rattle.upgrade.specs.Records.{DeviceEnd, deviceDigestAnswer, deviceNext, deviceDoes}
 use Rattle.upgrade.proofs.Ends.{deviceSays, deviceNumber}

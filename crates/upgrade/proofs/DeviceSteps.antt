@@ -12,11 +12,11 @@ use Rattle.message.specs.declared.Fields.{Fields}
 use Rattle.message.specs.Messages.{DeviceMessage, announce, fragment, execute, GatewayMessage, announceReply, executeReply, found, toDevice, toGateway}
 use Rattle.device_record.specs.declared.Device.{Device}
 use Rattle.device_record.specs.Record.{loading, failed, installing, reporting, holding}
-use Rattle.device.proofs.Images.{drop-patched, place-within}
-use Rattle.device.proofs.Sound.{sound-begun}
-use Rattle.device.proofs.Standing.{standing, repeats-same, standing-does, standing-under}
-use Rattle.device.proofs.Views
-use Rattle.device.proofs.Views.{Input, hears, installs, Out, spoken}
+use Rattle.device_rules.proofs.Images.{drop-patched, place-within}
+use Rattle.device_rules.proofs.Sound.{sound-begun}
+use Rattle.device_rules.proofs.Standing.{standing, repeats-same, standing-does, standing-under}
+use Rattle.device_rules.proofs.Views
+use Rattle.device_rules.proofs.Views.{Input, hears, installs, Out, spoken}
 use Rattle.gateway_record.specs.declared.Gateway.{Gateway}
 use Rattle.gateway_record.specs.Record as gateway
 use Rattle.gateway_record.proofs.Package.{stretch-fits, stretch-within}

@@ -11,7 +11,7 @@ use Rattle.message.specs.Messages.{Reading, refused, toDevice, toGateway}
 use Rattle.codec.specs.Codec.{readOf}
 use Rattle.gateway_record.specs.declared.Gateway.{Gateway}
 use Rattle.gateway_record.specs.Record as gateway
-use Rattle.gateway.proofs.Views.{Served, CanSay, Says, nothing, says, Turns, stays, offers, serves, runs, fails, succeeds, received, next-said}
+use Rattle.gateway_rules.proofs.Views.{Served, CanSay, Says, nothing, says, Turns, stays, offers, serves, runs, fails, succeeds, received, next-said}
 use Rattle.upgrade.specs.Calls.{GatewayCall, aired, atGateway, next}
 use Rattle.upgrade.specs.Records.{gatewayNext, World, records, gatewayDoes}
 use Rattle.upgrade.proofs.Ends.{gatewaySays}

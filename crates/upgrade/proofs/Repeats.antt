@@ -15,11 +15,11 @@ use Rattle.message.specs.Limits.{deviceRoom}
 use Rattle.message.specs.Messages.{found, fragment, toDevice}
 use Rattle.codec.specs.Codec.{readOf}
 use Rattle.device_record.specs.Record.{conditionOk, recordOk, memoryOk, loading}
-use Rattle.device_decisions.specs.Decisions.{storedBytes, repeatRefusal, fragmentRefusal}
-use Rattle.device_decisions.proofs.Tested.{repeated}
-use Rattle.device.specs.Rules.{handle, onFragment, receiveOf}
-use Rattle.device.proofs.Sound.{sound-record, sound-room}
-use Rattle.device.proofs.Standing.{Stored, standing, stored-is}
+use Rattle.device_rules.specs.Decisions.{storedBytes, repeatRefusal, fragmentRefusal}
+use Rattle.device_rules.proofs.Tested.{repeated}
+use Rattle.device_rules.specs.Rules.{handle, onFragment, receiveOf}
+use Rattle.device_rules.proofs.Sound.{sound-record, sound-room}
+use Rattle.device_rules.proofs.Standing.{Stored, standing, stored-is}
 use Rattle.upgrade.specs.Calls.{given}
 use Rattle.upgrade.specs.Records.{DeviceEnd, deviceDoes}
 use Rattle.upgrade.specs.Demand3.{made, deviceThen, heldThen}

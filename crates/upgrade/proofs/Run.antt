@@ -11,8 +11,8 @@ use Rattle.message.specs.Messages.{DeviceMessage, query, announce, fragment, do
 use Rattle.message.specs.Messages.{fragmentRequest, downloadReport, executeReply, resultReport, toDevice, toGateway}
 use Rattle.device_record.specs.declared.Device.{Device}
 use Rattle.device_record.specs.Record.{installing, reporting, holding}
-use Rattle.device.proofs.Sound.{Sound}
-use Rattle.device.proofs.Standing.{standing}
+use Rattle.device_rules.proofs.Sound.{Sound}
+use Rattle.device_rules.proofs.Standing.{standing}
 use Rattle.gateway_record.specs.declared.Gateway.{Gateway}
 use Rattle.gateway_record.specs.Record as gateway
 use Rattle.upgrade.specs.Records.{DeviceEnd, World}

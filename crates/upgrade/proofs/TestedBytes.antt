@@ -15,8 +15,8 @@ use Rattle.basis.proofs.Lists.{same-true}
 use Rattle.device_record.specs.declared.Device.{Device}
 use Rattle.device_record.specs.declared.Made.{Made}
 use Rattle.device_record.specs.Record.{loaded, acked, installing, inPhase, newOf}
-use Rattle.device_decisions.specs.Decisions.{checkPasses, digestPasses, passes, trueLength, lastAfter, completion}
-use Rattle.device.proofs.Views
+use Rattle.device_rules.specs.Decisions.{checkPasses, digestPasses, passes, trueLength, lastAfter, completion}
+use Rattle.device_rules.proofs.Views
 use Rattle.upgrade.specs.Fold.{after}
 use Rattle.upgrade.specs.Calls.{DeviceCall}
 use Rattle.upgrade.specs.Records.{DeviceEnd, deviceNext, deviceRecords}

@@ -15,10 +15,10 @@ use Rattle.message.specs.Messages.{execute, resultReport, fragmentOk, deviceFie
 use Rattle.codec.specs.Codec.{sealed, frame, bytesOf, readOf, writeOf, said}
 use Rattle.bitmap.specs.Bitmap.{marked, mark, cleared, missingFrom, lowestMissing}
 use Rattle.device_record.specs.Record as device-record
-use Rattle.device.specs.Rules as device
+use Rattle.device_rules.specs.Rules as device
 use Rattle.gateway_record.specs.Record as gateway-record
-use Rattle.gateway_decisions.specs.Decisions as decisions
-use Rattle.gateway.specs.Rules as gateway
+use Rattle.gateway_rules.specs.Decisions as decisions
+use Rattle.gateway_rules.specs.Rules as gateway
 use Rattle.upgrade.specs.Calls.{finished, atDevice, atGateway, aired, next, May}
 use Rattle.upgrade.specs.Records.{deviceDoes, gatewayDoes}
 use Rattle.upgrade.specs.Held.{heldBy, heldNext, heldAfter}

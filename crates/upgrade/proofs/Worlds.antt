@@ -9,7 +9,7 @@ use Rattle.message.specs.Messages.{DeviceMessage, fragment, execute, GatewayMes
 use Rattle.codec.specs.Codec.{readOf}
 use Rattle.round_trips.proofs.WrittenRead.{device-told, gateway-told}
 use Rattle.device_record.specs.Record.{loading}
-use Rattle.device.proofs.Views.{hears, installs, spoken, does-other}
+use Rattle.device_rules.proofs.Views.{hears, installs, spoken, does-other}
 use Rattle.gateway_record.specs.Record as gateway
 use Rattle.upgrade.specs.Calls.{DeviceCall, given, asked, finished, digestGiven, GatewayCall, atDevice, atGateway, next, May}
 use Rattle.upgrade.specs.Records.{World, records, deviceDoes}

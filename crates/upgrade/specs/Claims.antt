@@ -7,7 +7,7 @@ use Rattle.basis.specs.Numbers.{repeatDiffers}
 use Rattle.message.specs.Messages.{execute, executeReply, found, toDevice, toGateway}
 use Rattle.codec.specs.Codec.{bytesOf, readOf}
 use Rattle.device_record.specs.declared.Device.{Device}
-use Rattle.device_decisions.specs.Decisions.{trueLength}
+use Rattle.device_rules.specs.Decisions.{trueLength}
 use Rattle.gateway_record.specs.Record as gateway
 use Rattle.upgrade.specs.Fold.{after, Allowed}
 use Rattle.upgrade.specs.Calls.{given, asked, finished, digestGiven, Call, atDevice, atGateway, Ends, Both, next, May}

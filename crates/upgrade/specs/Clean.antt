@@ -6,7 +6,7 @@ use mathlib.Core.List.{List}
 use lib.ListN.{length}
 use Rattle.basis.specs.Numbers.{handled, noUse}
 use Rattle.basis.specs.Bytes.{same}
-use Rattle.md5.specs.Md5.{md5Of}
+use Rattle.md5_rules.specs.Md5.{md5Of}
 use Rattle.message.specs.Limits.{deviceRoom, gatewayRoom}
 use Rattle.device_record.specs.Record.{idle, mapBytes}
 use Rattle.gateway_record.specs.Record as gateway

@@ -9,7 +9,7 @@ use Rattle.basis.specs.Choice.{pick}
 use Rattle.message.specs.Messages.{DeviceMessage, query, announce, fragment, downloadReply, execute, resultReply, Reading, found, refused, toDevice}
 use Rattle.codec.specs.Codec.{readOf}
 use Rattle.message.specs.declared.Fields.{Fields}
-use Rattle.device.specs.Rules.{announceResult, resumes}
+use Rattle.device_rules.specs.Rules.{announceResult, resumes}
 use Rattle.upgrade.specs.Calls.{DeviceCall, given, asked, finished, digestGiven}
 use Rattle.upgrade.specs.Records.{DeviceEnd, deviceAnswer, deviceNext}
 

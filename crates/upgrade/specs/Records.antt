@@ -9,11 +9,11 @@ use Rattle.basis.specs.Choice.{pick}
 use Rattle.basis.specs.Numbers.{shortRecord}
 use Rattle.codec.specs.Codec.{Sent}
 use Rattle.device_record.specs.declared.Device.{Device}
-use Rattle.device.specs.declared.Finished.{Finished}
-use Rattle.device.specs.declared.DigestAnswer.{DigestAnswer}
-use Rattle.device.specs.Rules as device
+use Rattle.device_rules.specs.declared.Finished.{Finished}
+use Rattle.device_rules.specs.declared.DigestAnswer.{DigestAnswer}
+use Rattle.device_rules.specs.Rules as device
 use Rattle.gateway_record.specs.declared.Gateway.{Gateway}
-use Rattle.gateway.specs.Rules as gateway
+use Rattle.gateway_rules.specs.Rules as gateway
 use Rattle.upgrade.specs.Calls.{aired, DeviceCall, given, asked, finished, digestGiven, GatewayCall, Done, DeviceSide, Ends, Exchange}
 
 -- ---- the device, with image and map as the last call left them

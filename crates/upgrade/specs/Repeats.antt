@@ -14,7 +14,7 @@ use Rattle.message.specs.Messages.{found, fragment, toDevice}
 use Rattle.codec.specs.Codec.{readOf}
 use Rattle.bitmap.specs.Bitmap.{marked}
 use Rattle.device_record.specs.Record.{newOf, conditionOk, loading}
-use Rattle.device_decisions.specs.Decisions.{fragmentLength}
+use Rattle.device_rules.specs.Decisions.{fragmentLength}
 use Rattle.upgrade.specs.Calls.{given}
 use Rattle.upgrade.specs.Records.{deviceDoes}
 use Rattle.upgrade.specs.Demand3.{Before, deviceThen, heldThen}

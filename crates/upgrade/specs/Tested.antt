@@ -6,9 +6,9 @@ use mathlib.Core.Path.{_≡_}
 use mathlib.Core.List.{List}
 use lib.ListN.{take}
 use Rattle.checksum.specs.Check.{checkOf}
-use Rattle.md5.specs.Md5.{md5Of}
+use Rattle.md5_rules.specs.Md5.{md5Of}
 use Rattle.device_record.specs.Record.{idle, loading, failed, newOf}
-use Rattle.device_decisions.specs.Decisions.{trueLength}
+use Rattle.device_rules.specs.Decisions.{trueLength}
 use Rattle.upgrade.specs.Fold.{after}
 use Rattle.upgrade.specs.Calls.{DeviceCall, DeviceSide}
 use Rattle.upgrade.specs.Records.{deviceRecords}

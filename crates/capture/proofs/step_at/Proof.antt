@@ -1,7 +1,7 @@
 -- `capture::step_at` meets its contract: each return is one case of `itemAt`, by the tests that led there. Assumes nothing.
 use borrow.Author.Needs.{needs}
 use mathlib.Core.Path.{sym, _∙_}
-use Rattle.capture.proofs.Steps.{ends, one-left, wrong-mark, cut-short, found}
+use Rattle.capture_rules.proofs.Steps.{ends, one-left, wrong-mark, cut-short, found}
 use Rattle.capture.proofs.step_at.Statement.{statement}
 use Rattle.capture.proofs.step_at.Tie as tie
 

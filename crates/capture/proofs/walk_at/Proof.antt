@@ -4,9 +4,9 @@ use borrow.Author.Needs.{needs}
 use native.Mathlib.Omega.{arith}
 use mathlib.Core.Path.{refl, sym, _∙_, ap}
 use Rattle.capture.specs.declared.Step.{Step}
-use Rattle.capture.specs.Capture.{placeAfter}
+use Rattle.capture_rules.specs.Capture.{placeAfter}
 use Rattle.capture.specs.Answers.{itemOf}
-use Rattle.capture.proofs.Steps.{steps, is-found}
+use Rattle.capture_rules.proofs.Steps.{steps, is-found}
 use Rattle.capture.proofs.walk_at.Statement.{statement}
 use Rattle.capture.proofs.walk_at.Tie as tie
 

@@ -1,6 +1,6 @@
 -- `capture::wrong_mark` meets its contract. Assumes nothing.
 use mathlib.Core.Path.{refl}
-use Rattle.capture.specs.Capture.{wrongMark}
+use Rattle.capture_rules.specs.Capture.{wrongMark}
 use Rattle.capture.proofs.wrong_mark.Statement.{statement}
 use Rattle.capture.proofs.wrong_mark.Tie as tie
 

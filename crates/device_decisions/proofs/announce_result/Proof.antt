@@ -1,6 +1,6 @@
 -- `device_decisions::announce_result` meets its contract: its tests are the rule's in their order. Assumes nothing.
 use borrow.Author.Needs.{needs}
-use Rattle.device_decisions.specs.Decisions.{announceResult}
+use Rattle.device_rules.specs.Decisions.{announceResult}
 use Rattle.device_decisions.proofs.announce_result.Statement.{statement}
 use Rattle.device_decisions.proofs.announce_result.Tie as tie
 

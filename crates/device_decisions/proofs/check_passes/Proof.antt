@@ -1,7 +1,7 @@
 -- `device_decisions::check_passes` meets its contract: no code, or the check of the bytes. Assumes nothing.
 use borrow.Author.Tests.{eq-eqb, ne-eqb}
 use borrow.Author.Needs.{needs}
-use Rattle.device_decisions.specs.Decisions.{checkPasses}
+use Rattle.device_rules.specs.Decisions.{checkPasses}
 use Rattle.device_decisions.proofs.check_passes.Statement.{statement}
 use Rattle.device_decisions.proofs.check_passes.Tie as tie
 

@@ -5,7 +5,7 @@ use native.Mathlib.Nat.{sub-zero}
 use mathlib.Core.Path.{sym, _∙_}
 use Rattle.basis.proofs.Choosing.{pick-yes, pick-no}
 use Rattle.basis.proofs.Lists.{take-least}
-use Rattle.device_decisions.specs.Decisions.{completion}
+use Rattle.device_rules.specs.Decisions.{completion}
 use Rattle.device_decisions.proofs.completion.Statement.{statement}
 use Rattle.device_decisions.proofs.completion.Tie as tie
 

@@ -1,7 +1,7 @@
 -- `device_decisions::digest_passes` meets its contract: no digest is set, or it is that of the bytes. Assumes nothing.
 use borrow.Author.Tests.{eq-eqb, ne-eqb}
 use borrow.Author.Needs.{needs}
-use Rattle.device_decisions.specs.Decisions.{digestPasses}
+use Rattle.device_rules.specs.Decisions.{digestPasses}
 use Rattle.device_decisions.proofs.digest_passes.Statement.{statement}
 use Rattle.device_decisions.proofs.digest_passes.Tie as tie
 

@@ -1,6 +1,6 @@
 -- `device_decisions::execute_result` meets its contract: its tests of phase and condition are the rule's in their order. Assumes nothing.
 use borrow.Author.Needs.{needs}
-use Rattle.device_decisions.specs.Decisions.{executeResult}
+use Rattle.device_rules.specs.Decisions.{executeResult}
 use Rattle.device_decisions.proofs.execute_result.Statement.{statement}
 use Rattle.device_decisions.proofs.execute_result.Tie as tie
 

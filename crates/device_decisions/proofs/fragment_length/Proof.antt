@@ -3,7 +3,7 @@ use borrow.Author.Tests.{eq-eqb, ne-eqb}
 use borrow.Author.Needs.{needs}
 use mathlib.Core.Path.{sym}
 use Rattle.basis.proofs.Choosing.{pick-yes, pick-no}
-use Rattle.device_decisions.specs.Decisions.{fragmentLength}
+use Rattle.device_rules.specs.Decisions.{fragmentLength}
 use Rattle.device_decisions.proofs.fragment_length.Statement.{statement}
 use Rattle.device_decisions.proofs.fragment_length.Tie as tie
 

@@ -2,7 +2,7 @@
 use mathlib.Core.Path.{sym, _∙_}
 use borrow.Author.Needs.{needs}
 use borrow.Author.Tests.{not-true, not-false}
-use Rattle.device_decisions.proofs.Tested.{past-total, wrong-length, new-one, repeated}
+use Rattle.device_rules.proofs.Tested.{past-total, wrong-length, new-one, repeated}
 use Rattle.device_decisions.proofs.fragment_refusal.Statement.{statement}
 use Rattle.device_decisions.proofs.fragment_refusal.Tie as tie
 

@@ -2,7 +2,7 @@
 use mathlib.Core.Path.{sym, _∙_}
 use borrow.Author.Tests.{not-true, not-false}
 use borrow.Author.Needs.{needs}
-use Rattle.device_decisions.specs.Decisions.{passes}
+use Rattle.device_rules.specs.Decisions.{passes}
 use Rattle.device_decisions.proofs.passes.Statement.{statement}
 use Rattle.device_decisions.proofs.passes.Tie as tie
 

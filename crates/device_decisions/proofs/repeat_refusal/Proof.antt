@@ -1,6 +1,6 @@
 -- `device_decisions::repeat_refusal` meets its contract: the stored part of the image is what the rule compares with. Assumes nothing.
 use borrow.Author.Needs.{needs}
-use Rattle.device_decisions.specs.Decisions.{repeatRefusal}
+use Rattle.device_rules.specs.Decisions.{repeatRefusal}
 use Rattle.device_decisions.proofs.repeat_refusal.Statement.{statement}
 use Rattle.device_decisions.proofs.repeat_refusal.Tie as tie
 

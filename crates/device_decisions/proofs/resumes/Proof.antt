@@ -1,6 +1,6 @@
 -- `device_decisions::resumes` meets its contract. Assumes nothing.
 use borrow.Author.Needs.{needs}
-use Rattle.device_decisions.specs.Decisions.{resumes}
+use Rattle.device_rules.specs.Decisions.{resumes}
 use Rattle.device_decisions.proofs.resumes.Statement.{statement}
 use Rattle.device_decisions.proofs.resumes.Tie as tie
 

@@ -1,6 +1,6 @@
 -- `device_decisions::same_fields` meets its contract. Assumes nothing.
 use borrow.Author.Needs.{needs}
-use Rattle.device_decisions.specs.Decisions.{sameFields}
+use Rattle.device_rules.specs.Decisions.{sameFields}
 use Rattle.device_decisions.proofs.same_fields.Statement.{statement}
 use Rattle.device_decisions.proofs.same_fields.Tie as tie
 

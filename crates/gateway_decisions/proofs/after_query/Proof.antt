@@ -2,7 +2,7 @@
 use borrow.Author.Needs.{needs}
 use mathlib.Core.Path.{sym, _∙_}
 use Rattle.basis.proofs.Choosing.{pick-yes, pick-no}
-use Rattle.gateway_decisions.specs.Decisions.{afterQuery}
+use Rattle.gateway_rules.specs.Decisions.{afterQuery}
 use Rattle.gateway_decisions.proofs.after_query.Statement.{statement}
 use Rattle.gateway_decisions.proofs.after_query.Tie as tie
 

@@ -1,6 +1,6 @@
 -- `gateway_decisions::fragment_result` meets its contract. Assumes nothing.
 use borrow.Author.Needs.{needs}
-use Rattle.gateway_decisions.specs.Decisions.{fragmentResult}
+use Rattle.gateway_rules.specs.Decisions.{fragmentResult}
 use Rattle.gateway_decisions.proofs.fragment_result.Statement.{statement}
 use Rattle.gateway_decisions.proofs.fragment_result.Tie as tie
 

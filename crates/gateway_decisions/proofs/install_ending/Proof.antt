@@ -1,6 +1,6 @@
 -- `gateway_decisions::install_ending` meets its contract. Assumes nothing.
 use borrow.Author.Needs.{needs}
-use Rattle.gateway_decisions.specs.Decisions.{installEnding}
+use Rattle.gateway_rules.specs.Decisions.{installEnding}
 use Rattle.gateway_decisions.proofs.install_ending.Statement.{statement}
 use Rattle.gateway_decisions.proofs.install_ending.Tie as tie
 

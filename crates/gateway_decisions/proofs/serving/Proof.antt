@@ -1,6 +1,6 @@
 -- `gateway_decisions::serving` meets its contract. Assumes nothing.
 use mathlib.Core.Path.{refl}
-use Rattle.gateway_decisions.specs.Decisions.{serving}
+use Rattle.gateway_rules.specs.Decisions.{serving}
 use Rattle.gateway_decisions.proofs.serving.Statement.{statement}
 use Rattle.gateway_decisions.proofs.serving.Tie as tie
 

@@ -1,5 +1,5 @@
 -- `layout::device_at` meets its contract: each field is read at its place. Assumes nothing.
-use Rattle.layout.specs.Layout.{deviceAt}
+use Rattle.layout_rules.specs.Layout.{deviceAt}
 use borrow.Author.Needs.{needs}
 use Rattle.layout.proofs.device_at.Statement.{statement}
 use Rattle.layout.proofs.device_at.Tie as tie

@@ -1,5 +1,5 @@
 -- `layout::gateway_at` meets its contract: each field is read at its place. Assumes nothing.
-use Rattle.layout.specs.Layout.{gatewayAt}
+use Rattle.layout_rules.specs.Layout.{gatewayAt}
 use borrow.Author.Needs.{needs}
 use Rattle.layout.proofs.gateway_at.Statement.{statement}
 use Rattle.layout.proofs.gateway_at.Tie as tie

@@ -1,7 +1,7 @@
 -- `layout::keep_device` meets its contract: written where there is room, else left. Assumes nothing.
 use lib.ListN.{length}
 use mathlib.Core.Path.{_≡_, sym, _∙_}
-use Rattle.layout.proofs.Layouts.{front-length, device-whole, kept-short, kept-new}
+use Rattle.layout_rules.proofs.Layouts.{front-length, device-whole, kept-short, kept-new}
 use borrow.Author.Needs.{needs}
 use Rattle.layout.proofs.keep_device.Statement.{statement}
 use Rattle.layout.proofs.keep_device.Tie as tie

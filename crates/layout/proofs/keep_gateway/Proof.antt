@@ -1,5 +1,5 @@
 -- `layout::keep_gateway` meets its contract: written where there is room, else left. Assumes nothing.
-use Rattle.layout.proofs.Layouts.{kept-short, kept-new}
+use Rattle.layout_rules.proofs.Layouts.{kept-short, kept-new}
 use mathlib.Core.Path.{sym, _∙_}
 use borrow.Author.Needs.{needs}
 use Rattle.layout.proofs.keep_gateway.Statement.{statement}

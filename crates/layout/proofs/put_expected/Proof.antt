@@ -2,7 +2,7 @@
 use lib.ListN.{length}
 use native.Mathlib.Omega.{arith}
 use mathlib.Core.Path.{_≡_}
-use Rattle.layout.proofs.Layouts.{expected-put}
+use Rattle.layout_rules.proofs.Layouts.{expected-put}
 use borrow.Author.Needs.{needs}
 use Rattle.layout.proofs.put_expected.Statement.{statement}
 use Rattle.layout.proofs.put_expected.Tie as tie

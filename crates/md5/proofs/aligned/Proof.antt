@@ -1,5 +1,5 @@
 -- `md5::aligned` meets its contract: whole blocks first, and the rest leaves the block open. Assumes nothing.
-use Rattle.md5.proofs.Feeding.{cut-at, rest-open}
+use Rattle.md5_rules.proofs.Feeding.{cut-at, rest-open}
 use Prim.Native.Nat.{_<_}
 use native.Mathlib.Omega.{arith}
 use borrow.Author.Needs.{needs}

@@ -1,5 +1,5 @@
 -- `md5::closed` meets its contract: the buffer holds the bytes and their padding. Assumes nothing.
-use Rattle.md5.proofs.Closing.{buffer-length, closed-is}
+use Rattle.md5_rules.proofs.Closing.{buffer-length, closed-is}
 use lib.ListN.{length, length-set}
 use mathlib.Core.Path.{_≡_, ap}
 use native.Mathlib.Omega.{arith}

@@ -1,7 +1,7 @@
 -- `md5::digest` meets its contract: the blocks lie in the bytes, and the rest is closed. Assumes nothing.
-use Rattle.md5.proofs.Closing.{digest-closed}
-use Rattle.md5.specs.Md5.{blocks}
-use Rattle.md5.specs.declared.Words.{Words}
+use Rattle.md5_rules.proofs.Closing.{digest-closed}
+use Rattle.md5_rules.specs.Md5.{blocks}
+use Rattle.md5_rules.specs.declared.Words.{Words}
 use lib.ListN.{length}
 use Prim.Native.Nat.{_/_}
 use mathlib.Core.Path.{_∙_, ap}

@@ -1,7 +1,7 @@
 -- `md5::feed` meets its contract: a piece is cut where the block is whole. Assumes nothing.
 use lib.ListN.{length-take}
 use mathlib.Core.Path.{_∙_, _≡_}
-use Rattle.md5.proofs.Feeding.{cut-at, cut-count}
+use Rattle.md5_rules.proofs.Feeding.{cut-at, cut-count}
 use Prim.Native.Nat.{_<_, _+_, _-_, _%_}
 use native.Mathlib.Omega.{arith}
 use borrow.Author.Needs.{needs}

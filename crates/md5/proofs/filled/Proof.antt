@@ -1,5 +1,5 @@
 -- `md5::filled` meets its contract: the patched block is whole, and is compressed. Assumes nothing.
-use Rattle.md5.proofs.Feeding.{filled-is}
+use Rattle.md5_rules.proofs.Feeding.{filled-is}
 use lib.ListN.{length}
 use mathlib.Core.Path.{_≡_}
 use native.Mathlib.Omega.{arith}

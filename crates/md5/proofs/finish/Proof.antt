@@ -1,5 +1,5 @@
 -- `md5::finish` meets its contract: what waits is taken from the block. Assumes nothing.
-use Rattle.md5.proofs.Closing.{finish-closed}
+use Rattle.md5_rules.proofs.Closing.{finish-closed}
 use lib.ListN.{length}
 use mathlib.Core.Path.{_≡_}
 use borrow.Author.Needs.{needs}

@@ -1,6 +1,6 @@
 -- `md5::new` meets its contract: the words at the start, and zeros. Assumes nothing.
-use Rattle.md5.specs.Stream.{state}
-use Rattle.md5.specs.declared.Words.{Words}
+use Rattle.md5_rules.specs.Stream.{state}
+use Rattle.md5_rules.specs.declared.Words.{Words}
 use lib.ListN.{replicate}
 use mathlib.Core.Path.{ap}
 use borrow.Author.Needs.{needs}

@@ -1,6 +1,6 @@
 -- `md5::output` meets its contract: the four words' bytes, one behind the other. Assumes nothing.
-use Rattle.md5.proofs.Feeding.{word-first}
-use Rattle.md5.specs.Md5.{lowFirst, digestOf}
+use Rattle.md5_rules.proofs.Feeding.{word-first}
+use Rattle.md5_rules.specs.Md5.{lowFirst, digestOf}
 use mathlib.Core.List.{[], _++_}
 use mathlib.Core.Path.{_∙_, ap}
 use borrow.Author.Needs.{needs}

@@ -1,5 +1,5 @@
 -- `md5::stored` meets its contract: the block is patched, and stays open. Assumes nothing.
-use Rattle.md5.proofs.Feeding.{open-is}
+use Rattle.md5_rules.proofs.Feeding.{open-is}
 use lib.ListN.{length}
 use Prim.Native.Nat.{_<_}
 use mathlib.Core.Path.{_≡_}

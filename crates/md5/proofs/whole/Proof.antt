@@ -1,7 +1,7 @@
 -- `md5::whole` meets its contract: the blocks lie in the bytes themselves. Assumes nothing.
-use Rattle.md5.proofs.Feeding.{feed-all}
-use Rattle.md5.specs.Stream.{state}
-use Rattle.md5.specs.declared.Words.{Words}
+use Rattle.md5_rules.proofs.Feeding.{feed-all}
+use Rattle.md5_rules.specs.Stream.{state}
+use Rattle.md5_rules.specs.declared.Words.{Words}
 use lib.ListN.{length, replicate}
 use Prim.Native.Nat.{ℕ}
 use mathlib.Core.Path.{_≡_, _∙_, sym, ap₂}

@@ -1,7 +1,7 @@
 -- `md5_suite::in_pieces` meets its contract: what is left of the bytes takes the state to the same end. Assumes nothing.
-use Rattle.md5.proofs.Feeding.{piece-turn, pieces-ended, whole-digest}
-use Rattle.md5.specs.Stream.{newOf, feedOf, finishOf}
-use Rattle.md5.specs.declared.Md5.{Md5}
+use Rattle.md5_rules.proofs.Feeding.{piece-turn, pieces-ended, whole-digest}
+use Rattle.md5_rules.specs.Stream.{newOf, feedOf, finishOf}
+use Rattle.md5_rules.specs.declared.Md5.{Md5}
 use lib.ListN.{length, drop}
 use Prim.Native.Nat.{_≤_, _-_}
 use mathlib.Core.Path.{_≡_, _∙_, ap}

@@ -1,7 +1,10 @@
 -- `mend::main` is safe: what it reads and what it writes lie within the three buffers. Assumes nothing.
 use borrow.Author.Needs.{needs}
 use mathlib.Core.Path.{sym}
+use Prim.Native.Nat.{ℕ}
+use lib.ListN.{length-replicate}
 use lib.Seq.{length-take-le}
+use Rattle.mending.specs.Account.{toldRoom}
 use Rattle.mending.proofs.Accounts.{account-within}
 use Rattle.mend.proofs.main.Statement.{statement}
 use Rattle.mend.proofs.main.Tie as tie
@@ -31,7 +34,7 @@ slice-aggregate-mend-2 : tie.Need-slice-aggregate-mend-2
 slice-aggregate-mend-2 c = search needs
 
 slice-aggregate-mend-3 : tie.Need-slice-aggregate-mend-3
-slice-aggregate-mend-3 c = search needs
+slice-aggregate-mend-3 c = sym (length-replicate {0} {A = ℕ} toldRoom 0)
 
 mend-requires : tie.Need-mend-requires
 mend-requires c κs = search needs

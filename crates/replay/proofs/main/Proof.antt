@@ -1,7 +1,10 @@
 -- `replay::main` is safe: what it reads and what it writes lie within the two buffers. Assumes nothing.
 use borrow.Author.Needs.{needs}
 use mathlib.Core.Path.{sym}
+use Prim.Native.Nat.{ℕ}
+use lib.ListN.{length-replicate}
 use lib.Seq.{length-take-le}
+use Rattle.transcript.specs.Transcript.{outRoom}
 use Rattle.transcript.proofs.Replays.{within}
 use Rattle.replay.proofs.main.Statement.{statement}
 use Rattle.replay.proofs.main.Tie as tie
@@ -28,7 +31,7 @@ slice-aggregate-replay : tie.Need-slice-aggregate-replay
 slice-aggregate-replay c = sym (length-take-le _ _ (c .before .before .before .before .read-input .ensures))
 
 slice-aggregate-replay-2 : tie.Need-slice-aggregate-replay-2
-slice-aggregate-replay-2 c = search needs
+slice-aggregate-replay-2 c = sym (length-replicate {0} {A = ℕ} outRoom 0)
 
 replay-requires : tie.Need-replay-requires
 replay-requires c κs = search needs

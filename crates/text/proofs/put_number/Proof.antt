@@ -4,20 +4,23 @@ use Rattle.text.proofs.Figures.{number-written}
 use Rattle.text.proofs.put_number.Statement.{statement}
 use Rattle.text.proofs.put_number.Tie as tie
 
-figure-requires : tie.Need-figure-requires
-figure-requires c κs = tt
+last-five-requires : tie.Need-last-five-requires
+last-five-requires c κs = tt
 
-figure-requires-2 : tie.Need-figure-requires-2
-figure-requires-2 c κs = tt
+array-read-t10 : tie.Need-array-read-t10
+array-read-t10 c = search needs
 
-figure-requires-3 : tie.Need-figure-requires-3
-figure-requires-3 c κs = tt
+array-read-t13 : tie.Need-array-read-t13
+array-read-t13 c = search needs
 
-figure-requires-4 : tie.Need-figure-requires-4
-figure-requires-4 c κs = tt
+array-read-t16 : tie.Need-array-read-t16
+array-read-t16 c = search needs
 
-figure-requires-5 : tie.Need-figure-requires-5
-figure-requires-5 c κs = tt
+array-read-t19 : tie.Need-array-read-t19
+array-read-t19 c = search needs
+
+array-read-t22 : tie.Need-array-read-t22
+array-read-t22 c = search needs
 
 zeros-requires : tie.Need-zeros-requires
 zeros-requires c κs = tt
@@ -38,24 +41,21 @@ same-length : tie.Need-same-length
 same-length c = search needs
 
 returns : tie.Need-returns
-returns c = rw (← number-written (c .before .before .before .before .before .before .before .before .before .before .before .before .before .args .n)
-    (c .before .before .before .before .before .before .before .before .before .before .before .before .before .args .end)
-    (c .before .before .before .before .before .before .before .before .before .before .before .figure .ensures)
-    (c .before .before .before .before .before .before .before .before .before .before .figure2 .ensures)
-    (c .before .before .before .before .before .before .before .before .before .figure3 .ensures)
-    (c .before .before .before .before .before .before .before .before .figure4 .ensures)
-    (c .before .before .before .before .before .before .before .figure5 .ensures) (c .before .before .before .before .before .zeros .ensures))
+returns c = rw (← number-written (c .before .before .before .before .before .before .before .before .before .args .n)
+    (c .before .before .before .before .before .before .before .before .before .args .end)
+    (c .before .before .before .before .before .before .before .last-five .ensures) (c .before .before .before .before .before .zeros .ensures))
     (c .before .before .put-text .ensures)
 
 pub put-number-spec : {M : Type 1} → statement M
 put-number-spec =
     tie.close
     (tie.spec
-    figure-requires
-    figure-requires-2
-    figure-requires-3
-    figure-requires-4
-    figure-requires-5
+    last-five-requires
+    array-read-t10
+    array-read-t13
+    array-read-t16
+    array-read-t19
+    array-read-t22
     zeros-requires
     sub-put-text
     part-put-text-start

@@ -3,7 +3,7 @@ use mathlib.Core.Path.{_≡_, refl, sym, _∙_}
 use Prim.Native.Nat.{suc, _-_}
 use native.Mathlib.Omega.{arith}
 use lib.ListN.{length}
-use Rattle.device.specs.Answers.{afterCall}
+use Rattle.device_rules.specs.Answers.{afterCall}
 use Rattle.transcript.proofs.Runs.{Reached, begins, over, turn-room, stops, goes-on}
 use Rattle.transcript.proofs.run.Statement.{statement}
 use Rattle.transcript.proofs.run.Tie as tie

@@ -2,7 +2,7 @@
 -- that the proof knows of `mend_at` is that it meets its contract.
 -- Assumes nothing.
 use mathlib.Core.Path.{_≡_, refl}
-use Rattle.capture.specs.Mending.{mendAt}
+use Rattle.capture_rules.specs.Mending.{mendAt}
 use Rattle.capture.specs.Answers.{mendTold}
 use Rattle.capture.proofs.ReaderWalks.{taken-apart}
 use Rattle.capture.proofs.Mended as S

@@ -1,6 +1,6 @@
 -- `capture::mend::first_sound` meets its contract: the first sound place that the loop comes to, else the end. Assumes nothing.
-use Rattle.capture.proofs.Mends.{sound-here, sound-later, sound-none}
-use Rattle.capture.specs.Mending.{firstSound}
+use Rattle.capture_rules.proofs.Mends.{sound-here, sound-later, sound-none}
+use Rattle.capture_rules.specs.Mending.{firstSound}
 use lib.ListN.{length}
 use mathlib.Core.Path.{_≡_, refl, sym, _∙_}
 use native.Mathlib.Omega.{arith}

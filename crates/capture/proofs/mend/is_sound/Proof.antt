@@ -1,5 +1,5 @@
 -- `capture::mend::is_sound` meets its contract: a whole record, and its message recognised. Assumes nothing.
-use Rattle.capture.proofs.Mends.{sound-found, sound-end, sound-fault}
+use Rattle.capture_rules.proofs.Mends.{sound-found, sound-end, sound-fault}
 use Rattle.capture.specs.Answers.{itemOf}
 use mathlib.Core.Path.{sym, _∙_, ap}
 use borrow.Author.Needs.{needs}

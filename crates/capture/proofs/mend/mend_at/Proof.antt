@@ -1,8 +1,8 @@
 -- `capture::mend::mend_at` meets its contract: what the reader finds, but for a fault, where a stretch is passed over. Assumes nothing.
 use lib.ListN.{length}
 use Prim.Native.Nat.{_-_}
-use Rattle.capture.proofs.Mends.{part-found, part-end, part-passed, fault-within, first-above}
-use Rattle.capture.proofs.Steps.{is-found}
+use Rattle.capture_rules.proofs.Mends.{part-found, part-end, part-passed, fault-within, first-above}
+use Rattle.capture_rules.proofs.Steps.{is-found}
 use Rattle.capture.specs.Answers.{itemOf}
 use mathlib.Core.Path.{sym, _∙_, ap}
 use Prim.Native.Nat.{_+_}

@@ -1,5 +1,5 @@
 -- `capture::write::fits` meets its contract. Assumes nothing.
-use Rattle.capture.proofs.Writes.{too-long, past-the-end, by-room}
+use Rattle.capture_rules.proofs.Writes.{too-long, past-the-end, by-room}
 use borrow.Author.Needs.{needs}
 use Rattle.capture.proofs.write.fits.Statement.{statement}
 use Rattle.capture.proofs.write.fits.Tie as tie

@@ -1,5 +1,5 @@
 -- `capture::write::header` meets its contract: the mark and the length as WORDs. Assumes nothing.
-use Rattle.capture.proofs.Writes.{header-is}
+use Rattle.capture_rules.proofs.Writes.{header-is}
 use borrow.Author.Needs.{needs}
 use Rattle.capture.proofs.write.header.Statement.{statement}
 use Rattle.capture.proofs.write.header.Tie as tie

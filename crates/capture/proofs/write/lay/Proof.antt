@@ -1,6 +1,6 @@
 -- `capture::write::lay` meets its contract: mark, length and message, one behind the other. Assumes nothing.
 use native.Mathlib.Omega.{arith}
-use Rattle.capture.proofs.Writes.{pieces}
+use Rattle.capture_rules.proofs.Writes.{pieces}
 use borrow.Author.Needs.{needs}
 use Rattle.capture.proofs.write.lay.Statement.{statement}
 use Rattle.capture.proofs.write.lay.Tie as tie

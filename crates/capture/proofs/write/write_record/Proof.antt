@@ -2,7 +2,7 @@
 use lib.ListN.{length}
 use mathlib.Core.Path.{sym, _∙_}
 use borrow.Author.Tests.{not-true, not-false}
-use Rattle.capture.proofs.Writes.{Room, room, refused, written}
+use Rattle.capture_rules.proofs.Writes.{Room, room, refused, written}
 use borrow.Author.Needs.{needs}
 use Rattle.capture.proofs.write.write_record.Statement.{statement}
 use Rattle.capture.proofs.write.write_record.Tie as tie

@@ -5,7 +5,7 @@ use mathlib.Core.Path.{sym, _∙_}
 use Rattle.basis.proofs.Choosing.{pick-yes, pick-no}
 use Rattle.message.proofs.ToDevice.{enum}
 use Rattle.codec.proofs.Leading.{unexpected, no-other}
-use Rattle.device.specs.Rules.{onDownloadReply}
+use Rattle.device_rules.specs.Rules.{onDownloadReply}
 use Rattle.device.proofs.Readings.{leaves, of-download}
 use Rattle.device.proofs.handlers.on_download_reply.Statement.{statement}
 use Rattle.device.proofs.handlers.on_download_reply.Tie as tie

@@ -3,7 +3,7 @@ use borrow.Author.Needs.{needs}
 use mathlib.Core.Path.{_∙_, refl}
 use Rattle.message.proofs.ToDevice.{enum}
 use Rattle.codec.proofs.Leading.{unexpected, no-other}
-use Rattle.device.specs.Rules.{onExecute}
+use Rattle.device_rules.specs.Rules.{onExecute}
 use Rattle.device.proofs.Readings.{leaves}
 use Rattle.device.proofs.Replying.{execute-allowed}
 use Rattle.device.proofs.Executed.{phase-chosen}

@@ -1,7 +1,7 @@
 -- `device::handlers::on_fragment` meets its contract: its tests are the rule's in their order, and past them a fragment may be stored. Assumes nothing.
 use borrow.Author.Needs.{needs}
 use mathlib.Core.Path.{sym, _∙_}
-use Rattle.device_decisions.proofs.Tested.{fragment-passed}
+use Rattle.device_rules.proofs.Tested.{fragment-passed}
 use Rattle.message.proofs.ToDevice.{enum}
 use Rattle.codec.proofs.Leading.{unexpected, no-other}
 use Rattle.device.proofs.Fragments.{not-loading, stopped, unknown, differs, refused-first, stores}

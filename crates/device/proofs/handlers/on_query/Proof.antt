@@ -4,7 +4,7 @@ use mathlib.Core.Path.{refl}
 use Rattle.device_record.proofs.Records.{record-kept}
 use Rattle.message.proofs.ToDevice.{enum}
 use Rattle.codec.proofs.Leading.{unexpected, no-other}
-use Rattle.device.specs.Rules.{onQuery}
+use Rattle.device_rules.specs.Rules.{onQuery}
 use Rattle.device.proofs.Readings.{leaves}
 use Rattle.device.proofs.Replying.{query-allowed}
 use Rattle.device.proofs.handlers.on_query.Statement.{statement}

@@ -3,7 +3,7 @@ use borrow.Author.Tests.{eq-eqb, ne-eqb}
 use borrow.Author.Needs.{needs}
 use mathlib.Core.Path.{sym}
 use Rattle.basis.proofs.Choosing.{pick-yes, pick-no}
-use Rattle.device.specs.Rules.{giveDigestOf}
+use Rattle.device_rules.specs.Rules.{giveDigestOf}
 use Rattle.device.proofs.steps.give_digest.Statement.{statement}
 use Rattle.device.proofs.steps.give_digest.Tie as tie
 

@@ -1,6 +1,6 @@
 -- `device::steps::handle` meets its contract: each code leads to the handler that promises its message's rule. Assumes nothing.
 use borrow.Author.Needs.{needs}
-use Rattle.device.specs.Rules.{handle}
+use Rattle.device_rules.specs.Rules.{handle}
 use Rattle.device.proofs.Readings.{leads, leads-last}
 use Rattle.device.proofs.steps.handle.Statement.{statement}
 use Rattle.device.proofs.steps.handle.Tie as tie

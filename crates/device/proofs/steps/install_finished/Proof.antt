@@ -3,7 +3,7 @@ use borrow.Author.Tests.{eq-eqb, ne-eqb}
 use borrow.Author.Needs.{needs}
 use mathlib.Core.Path.{sym}
 use Rattle.basis.proofs.Choosing.{pick-yes, pick-no}
-use Rattle.device.specs.Rules.{installFinishedOf}
+use Rattle.device_rules.specs.Rules.{installFinishedOf}
 use Rattle.device.proofs.steps.install_finished.Statement.{statement}
 use Rattle.device.proofs.steps.install_finished.Tie as tie
 

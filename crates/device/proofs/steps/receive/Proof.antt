@@ -6,8 +6,8 @@ use Rattle.basis.proofs.Choosing.{pick-yes, pick-no}
 use Rattle.message.specs.Messages.{toDevice}
 use Rattle.round_trips.proofs.RoundTrip.{device-round-trip}
 use Rattle.round_trips.proofs.Said.{code-read}
-use Rattle.device.specs.Rules.{receiveOf}
-use Rattle.device.proofs.Guarded.{receiving-passed}
+use Rattle.device_rules.specs.Rules.{receiveOf}
+use Rattle.device_rules.proofs.Guarded.{receiving-passed}
 use Rattle.device.proofs.steps.receive.Statement.{statement}
 use Rattle.device.proofs.steps.receive.Tie as tie
 

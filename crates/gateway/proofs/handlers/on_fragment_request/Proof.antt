@@ -5,7 +5,7 @@ use Rattle.gateway.proofs.Handling.{fragment-none, fragment-some}
 use Rattle.message.proofs.ToGateway.{enum}
 use Rattle.codec.proofs.Leading.{unexpected, no-other}
 use Rattle.gateway.proofs.Readings.{leaves}
-use Rattle.gateway.proofs.Saying.{denied-allowed, given-allowed}
+use Rattle.gateway_rules.proofs.Saying.{denied-allowed, given-allowed}
 use Rattle.gateway.proofs.handlers.on_fragment_request.Statement.{statement}
 use Rattle.gateway.proofs.handlers.on_fragment_request.Tie as tie
 

@@ -1,6 +1,6 @@
 -- `gateway::replies::replied` meets its contract. Assumes nothing.
 use borrow.Author.Needs.{needs}
-use Rattle.gateway.proofs.Saying.{reply-said}
+use Rattle.gateway_rules.proofs.Saying.{reply-said}
 use Rattle.gateway.proofs.replies.replied.Statement.{statement}
 use Rattle.gateway.proofs.replies.replied.Tie as tie
 

@@ -1,6 +1,6 @@
 -- `gateway::steps::handle` meets its contract: a handler for each code, whose promises are the rule. Assumes nothing.
 use borrow.Author.Needs.{needs}
-use Rattle.gateway.specs.Rules.{handle}
+use Rattle.gateway_rules.specs.Rules.{handle}
 use Rattle.gateway.proofs.Readings.{leads, leads-last}
 use Rattle.gateway.proofs.steps.handle.Statement.{statement}
 use Rattle.gateway.proofs.steps.handle.Tie as tie

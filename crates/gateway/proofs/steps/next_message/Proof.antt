@@ -1,7 +1,7 @@
 -- `gateway::next_message` meets its contract: the guard's number, or what is wanted, which is allowed. Assumes nothing.
 use borrow.Author.Needs.{needs}
 use mathlib.Core.Path.{_∙_}
-use Rattle.gateway.proofs.GuardedCalls.{next-refused, next-spoken}
+use Rattle.gateway_rules.proofs.GuardedCalls.{next-refused, next-spoken}
 use Rattle.gateway.proofs.steps.next_message.Statement.{statement}
 use Rattle.gateway.proofs.steps.next_message.Tie as tie
 

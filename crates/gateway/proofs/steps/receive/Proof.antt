@@ -1,7 +1,7 @@
 -- `gateway::receive` meets its contract: the guard's number, or what the handler left. Assumes nothing.
 use borrow.Author.Needs.{needs}
 use mathlib.Core.Path.{_∙_}
-use Rattle.gateway.proofs.GuardedCalls.{guarded, receive-refused, receive-handled, code-told}
+use Rattle.gateway_rules.proofs.GuardedCalls.{guarded, receive-refused, receive-handled, code-told}
 use Rattle.gateway.proofs.steps.receive.Statement.{statement}
 use Rattle.gateway.proofs.steps.receive.Tie as tie
 

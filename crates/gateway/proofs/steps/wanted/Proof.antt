@@ -1,5 +1,5 @@
 -- `gateway::steps::wanted` meets its contract, phase by phase. Assumes nothing.
-use Rattle.gateway.proofs.GuardedCalls.{wants-query, wants-announce, wants-execute, wants-nothing}
+use Rattle.gateway_rules.proofs.GuardedCalls.{wants-query, wants-announce, wants-execute, wants-nothing}
 use Rattle.gateway.proofs.steps.wanted.Statement.{statement}
 use Rattle.gateway.proofs.steps.wanted.Tie as tie
 

@@ -1,5 +1,5 @@
 -- `pcp::answers::text_of` meets its contract: up to 16 bytes as they are, with 00 behind them; of more, the text that is none. Assumes nothing.
-use Rattle.pcp.specs.Exports.{textOf}
+use Rattle.exports.specs.Exports.{textOf}
 use Rattle.basis.proofs.Choosing.{pick-yes, pick-no}
 use borrow.Author.Tests.{le-leb, lt-leb}
 use mathlib.Core.Path.{sym, _∙_}

@@ -3,8 +3,8 @@ use mathlib.Core.Path.{sym, ap}
 use borrow.Author.Needs.{needs}
 use Rattle.capture.specs.declared.Step.{Step}
 use Rattle.capture.specs.Answers.{itemOf}
-use Rattle.pcp.specs.Captures.{kindOf}
-use Rattle.pcp.proofs.CaptureItems.{kind-told}
+use Rattle.exports.specs.Captures.{kindOf}
+use Rattle.exports.proofs.CaptureItems.{kind-told}
 use Rattle.pcp.proofs.capture_calls.kind_of.Statement.{statement}
 use Rattle.pcp.proofs.capture_calls.kind_of.Tie as tie
 

@@ -1,7 +1,7 @@
 -- `pcp::capture_calls::pcp_raw_capture_kind` meets its contract: the kind of what the reader finds. Assumes nothing.
 use mathlib.Core.Path.{_∙_, ap}
-use Rattle.capture.specs.Capture.{Walk}
-use Rattle.pcp.specs.Captures.{kindOf}
+use Rattle.capture_rules.specs.Capture.{Walk}
+use Rattle.exports.specs.Captures.{kindOf}
 use borrow.Author.Needs.{needs}
 use Rattle.pcp.proofs.capture_calls.pcp_raw_capture_kind.Statement.{statement}
 use Rattle.pcp.proofs.capture_calls.pcp_raw_capture_kind.Tie as tie

@@ -1,6 +1,6 @@
 -- `pcp::capture_calls::pcp_raw_capture_mended` meets its contract: the mending reader's next place. Assumes nothing.
 use mathlib.Core.Path.{ap}
-use Rattle.capture.specs.Mending.{Mend}
+use Rattle.capture_rules.specs.Mending.{Mend}
 use borrow.Author.Needs.{needs}
 use Rattle.pcp.proofs.capture_calls.pcp_raw_capture_mended.Statement.{statement}
 use Rattle.pcp.proofs.capture_calls.pcp_raw_capture_mended.Tie as tie

@@ -1,6 +1,6 @@
 -- `pcp::capture_calls::pcp_raw_capture_next` meets its contract: the reader's next place. Assumes nothing.
 use mathlib.Core.Path.{ap}
-use Rattle.capture.specs.Capture.{Walk}
+use Rattle.capture_rules.specs.Capture.{Walk}
 use borrow.Author.Needs.{needs}
 use Rattle.pcp.proofs.capture_calls.pcp_raw_capture_next.Statement.{statement}
 use Rattle.pcp.proofs.capture_calls.pcp_raw_capture_next.Tie as tie

@@ -1,8 +1,8 @@
 -- `pcp::capture_calls::pcp_raw_capture_write` meets its contract: the writer's number, and the buffer that it left. Assumes nothing.
 use mathlib.Core.Path.{ap}
-use Rattle.capture.specs.Writing.{Wrote}
-use Rattle.pcp.specs.Exports.{Left}
-use Rattle.pcp.specs.Captures.{captureWriteOf}
+use Rattle.capture_rules.specs.Writing.{Wrote}
+use Rattle.exports.specs.Exports.{Left}
+use Rattle.exports.specs.Captures.{captureWriteOf}
 use borrow.Author.Needs.{needs}
 use Rattle.pcp.proofs.capture_calls.pcp_raw_capture_write.Statement.{statement}
 use Rattle.pcp.proofs.capture_calls.pcp_raw_capture_write.Tie as tie

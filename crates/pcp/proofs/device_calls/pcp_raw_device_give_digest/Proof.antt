@@ -1,8 +1,8 @@
 -- `pcp::device_calls::pcp_raw_device_give_digest` meets its contract: 64 for a short record buffer and for a digest of another length, else the
 -- device's call between reading the record and keeping it. Assumes nothing.
-use Rattle.pcp.proofs.ExportLaws.{too-short, device-no-digest, device-digest-given}
-use Rattle.pcp.specs.Exports.{deviceGiveDigestOf}
-use Rattle.layout.specs.Layout.{deviceLength}
+use Rattle.exports.proofs.ExportLaws.{too-short, device-no-digest, device-digest-given}
+use Rattle.exports.specs.Exports.{deviceGiveDigestOf}
+use Rattle.layout_rules.specs.Layout.{deviceLength}
 use mathlib.Core.List.{[]}
 use borrow.Author.Needs.{needs}
 use Rattle.pcp.proofs.device_calls.pcp_raw_device_give_digest.Statement.{statement}

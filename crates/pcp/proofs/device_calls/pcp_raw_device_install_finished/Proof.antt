@@ -1,8 +1,8 @@
 -- `pcp::device_calls::pcp_raw_device_install_finished` meets its contract: 64 for a short record buffer, else the device's call between reading the
 -- record and keeping it. Assumes nothing.
-use Rattle.pcp.proofs.ExportLaws.{too-short, device-finished}
-use Rattle.pcp.specs.Exports.{deviceInstallFinishedOf}
-use Rattle.layout.specs.Layout.{deviceLength}
+use Rattle.exports.proofs.ExportLaws.{too-short, device-finished}
+use Rattle.exports.specs.Exports.{deviceInstallFinishedOf}
+use Rattle.layout_rules.specs.Layout.{deviceLength}
 use borrow.Author.Needs.{needs}
 use Rattle.pcp.proofs.device_calls.pcp_raw_device_install_finished.Statement.{statement}
 use Rattle.pcp.proofs.device_calls.pcp_raw_device_install_finished.Tie as tie

@@ -3,9 +3,9 @@
 use mathlib.Core.Path.{sym, _∙_}
 use borrow.Author.Tests.{eq-eqb, ne-eqb}
 use Rattle.basis.proofs.Choosing.{pick-yes, pick-no}
-use Rattle.pcp.proofs.ExportLaws.{too-short, device-made}
-use Rattle.pcp.specs.Exports.{deviceNewOf}
-use Rattle.layout.specs.Layout.{deviceLength}
+use Rattle.exports.proofs.ExportLaws.{too-short, device-made}
+use Rattle.exports.specs.Exports.{deviceNewOf}
+use Rattle.layout_rules.specs.Layout.{deviceLength}
 use borrow.Author.Needs.{needs}
 use Rattle.pcp.proofs.device_calls.pcp_raw_device_new.Statement.{statement}
 use Rattle.pcp.proofs.device_calls.pcp_raw_device_new.Tie as tie

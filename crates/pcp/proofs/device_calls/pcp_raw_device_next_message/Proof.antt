@@ -1,8 +1,8 @@
 -- `pcp::device_calls::pcp_raw_device_next_message` meets its contract: 64 for a short record buffer, else the device's call; its answer fits, since
 -- no reply is longer than its room. Assumes nothing.
-use Rattle.pcp.proofs.ExportLaws.{too-short, device-asked, device-ask-below}
-use Rattle.pcp.specs.Exports.{deviceNextMessageOf}
-use Rattle.layout.specs.Layout.{deviceLength}
+use Rattle.exports.proofs.ExportLaws.{too-short, device-asked, device-ask-below}
+use Rattle.exports.specs.Exports.{deviceNextMessageOf}
+use Rattle.layout_rules.specs.Layout.{deviceLength}
 use borrow.Author.Needs.{needs}
 use Rattle.pcp.proofs.device_calls.pcp_raw_device_next_message.Statement.{statement}
 use Rattle.pcp.proofs.device_calls.pcp_raw_device_next_message.Tie as tie

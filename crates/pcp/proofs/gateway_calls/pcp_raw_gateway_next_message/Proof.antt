@@ -1,8 +1,8 @@
 -- `pcp::gateway_calls::pcp_raw_gateway_next_message` meets its contract: 64 for a short record buffer, else the gateway's call; its answer fits,
 -- since no reply is longer than its room. Assumes nothing.
-use Rattle.pcp.proofs.ExportLaws.{too-short, gateway-asked, gateway-ask-below}
-use Rattle.pcp.specs.Exports.{gatewayNextMessageOf}
-use Rattle.layout.specs.Layout.{gatewayLength}
+use Rattle.exports.proofs.ExportLaws.{too-short, gateway-asked, gateway-ask-below}
+use Rattle.exports.specs.Exports.{gatewayNextMessageOf}
+use Rattle.layout_rules.specs.Layout.{gatewayLength}
 use borrow.Author.Needs.{needs}
 use Rattle.pcp.proofs.gateway_calls.pcp_raw_gateway_next_message.Statement.{statement}
 use Rattle.pcp.proofs.gateway_calls.pcp_raw_gateway_next_message.Tie as tie

@@ -1,8 +1,8 @@
 -- `pcp::gateway_calls::pcp_raw_gateway_receive` meets its contract: 64 for a short record buffer, else the gateway's call between reading the
 -- record and keeping it. Assumes nothing.
-use Rattle.pcp.proofs.ExportLaws.{too-short, gateway-given, gateway-reply-below}
-use Rattle.pcp.specs.Exports.{gatewayReceiveOf}
-use Rattle.layout.specs.Layout.{gatewayLength}
+use Rattle.exports.proofs.ExportLaws.{too-short, gateway-given, gateway-reply-below}
+use Rattle.exports.specs.Exports.{gatewayReceiveOf}
+use Rattle.layout_rules.specs.Layout.{gatewayLength}
 use borrow.Author.Needs.{needs}
 use Rattle.pcp.proofs.gateway_calls.pcp_raw_gateway_receive.Statement.{statement}
 use Rattle.pcp.proofs.gateway_calls.pcp_raw_gateway_receive.Tie as tie

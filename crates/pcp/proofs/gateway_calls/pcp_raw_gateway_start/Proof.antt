@@ -3,9 +3,9 @@
 use mathlib.Core.Path.{sym, _∙_}
 use borrow.Author.Tests.{eq-eqb, ne-eqb}
 use Rattle.basis.proofs.Choosing.{pick-yes, pick-no}
-use Rattle.pcp.proofs.ExportLaws.{too-short, gateway-started}
-use Rattle.pcp.specs.Exports.{gatewayStartOf}
-use Rattle.layout.specs.Layout.{gatewayLength}
+use Rattle.exports.proofs.ExportLaws.{too-short, gateway-started}
+use Rattle.exports.specs.Exports.{gatewayStartOf}
+use Rattle.layout_rules.specs.Layout.{gatewayLength}
 use borrow.Author.Needs.{needs}
 use Rattle.pcp.proofs.gateway_calls.pcp_raw_gateway_start.Statement.{statement}
 use Rattle.pcp.proofs.gateway_calls.pcp_raw_gateway_start.Tie as tie

@@ -2,9 +2,9 @@
 use mathlib.Core.Path.{sym}
 use borrow.Author.Tests.{ne-eqb}
 use Rattle.basis.proofs.Choosing.{pick-no}
-use Rattle.md5.proofs.Feeding.{digest-length}
-use Rattle.pcp.specs.Digests.{md5DigestOf}
-use Rattle.pcp.proofs.DigestLaws.{digest-left}
+use Rattle.md5_rules.proofs.Feeding.{digest-length}
+use Rattle.exports.specs.Digests.{md5DigestOf}
+use Rattle.exports.proofs.DigestLaws.{digest-left}
 use borrow.Author.Needs.{needs}
 use Rattle.pcp.proofs.md5_calls.pcp_raw_md5.Statement.{statement}
 use Rattle.pcp.proofs.md5_calls.pcp_raw_md5.Tie as tie

@@ -1,9 +1,9 @@
 -- `pcp::md5_calls::pcp_raw_md5_feed` meets its contract: the state read, with a piece fed to it, is kept, where there is room. Assumes nothing.
 use mathlib.Core.Path.{_∙_, ap}
-use Rattle.md5.specs.declared.Md5.{Md5}
-use Rattle.md5.specs.Stream.{feedOf}
-use Rattle.pcp.specs.Digests.{md5FeedOf}
-use Rattle.pcp.proofs.DigestLaws.{state-left}
+use Rattle.md5_rules.specs.declared.Md5.{Md5}
+use Rattle.md5_rules.specs.Stream.{feedOf}
+use Rattle.exports.specs.Digests.{md5FeedOf}
+use Rattle.exports.proofs.DigestLaws.{state-left}
 use borrow.Author.Needs.{needs}
 use Rattle.pcp.proofs.md5_calls.pcp_raw_md5_feed.Statement.{statement}
 use Rattle.pcp.proofs.md5_calls.pcp_raw_md5_feed.Tie as tie

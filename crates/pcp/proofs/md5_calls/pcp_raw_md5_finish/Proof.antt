@@ -2,11 +2,11 @@
 use mathlib.Core.Path.{sym, _∙_, ap}
 use borrow.Author.Tests.{ne-eqb}
 use Rattle.basis.proofs.Choosing.{pick-no}
-use Rattle.md5.specs.Stream.{finishOf}
+use Rattle.md5_rules.specs.Stream.{finishOf}
 use Rattle.md5_layout.specs.Layout.{stateLength}
-use Rattle.pcp.specs.Digests.{md5FinishOf}
-use Rattle.pcp.proofs.ExportLaws.{too-short, long-enough}
-use Rattle.pcp.proofs.DigestLaws.{digest-left, finish-length}
+use Rattle.exports.specs.Digests.{md5FinishOf}
+use Rattle.exports.proofs.ExportLaws.{too-short, long-enough}
+use Rattle.exports.proofs.DigestLaws.{digest-left, finish-length}
 use borrow.Author.Needs.{needs}
 use Rattle.pcp.proofs.md5_calls.pcp_raw_md5_finish.Statement.{statement}
 use Rattle.pcp.proofs.md5_calls.pcp_raw_md5_finish.Tie as tie

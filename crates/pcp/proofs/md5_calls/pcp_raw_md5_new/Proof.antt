@@ -1,6 +1,6 @@
 -- `pcp::md5_calls::pcp_raw_md5_new` meets its contract: the state before any byte is kept, where there is room. Assumes nothing.
-use Rattle.pcp.specs.Digests.{md5NewOf}
-use Rattle.pcp.proofs.DigestLaws.{state-left}
+use Rattle.exports.specs.Digests.{md5NewOf}
+use Rattle.exports.proofs.DigestLaws.{state-left}
 use borrow.Author.Needs.{needs}
 use Rattle.pcp.proofs.md5_calls.pcp_raw_md5_new.Statement.{statement}
 use Rattle.pcp.proofs.md5_calls.pcp_raw_md5_new.Tie as tie

@@ -1,6 +1,6 @@
 -- `transcript::line::put_line` meets its contract: a piece after the other, each with the room that the whole line leaves it. Assumes nothing.
 use borrow.Author.Needs.{needs}
-use Rattle.transcript.proofs.Lines.{reply-room, line-whole}
+use Rattle.transcript.proofs.Lines.{line-whole}
 use Rattle.transcript.proofs.line.put_line.Statement.{statement}
 use Rattle.transcript.proofs.line.put_line.Tie as tie
 
@@ -14,9 +14,7 @@ put-number-requires-3 : tie.Need-put-number-requires-3
 put-number-requires-3 c κs = tt
 
 put-reply-requires : tie.Need-put-reply-requires
-put-reply-requires c κs = reply-room _ _ _ _ _ _ (c .before .before .before .before .before .before .before .before .before .before .before .before .before
-    .before .before .pre) (c .before .before .before .before .before .before .before .before .before .before .before .put-number .ensures)
-    (c .before .before .before .before .before .before .before .put-number2 .ensures) (c .before .before .before .put-number3 .ensures)
+put-reply-requires c κs = tt
 
 slice-aggregate-put-text : tie.Need-slice-aggregate-put-text
 slice-aggregate-put-text c = search needs

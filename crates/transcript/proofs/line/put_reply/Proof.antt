@@ -1,9 +1,6 @@
 -- `transcript::line::put_reply` meets its contract: one case for each test. Assumes nothing.
 use borrow.Author.Needs.{needs}
-use native.Mathlib.Omega.{arith}
-use mathlib.Core.Path.{ap}
-use lib.ListN.{length}
-use Rattle.transcript.proofs.Figures.{reply-dash, reply-hex}
+use Rattle.transcript.proofs.Figures.{reply-none, reply-hex}
 use Rattle.transcript.proofs.line.put_reply.Statement.{statement}
 use Rattle.transcript.proofs.line.put_reply.Tie as tie
 
@@ -14,21 +11,14 @@ put-text-requires : tie.Need-put-text-requires
 put-text-requires c κs = tt
 
 put-hex-requires : tie.Need-put-hex-requires
-put-hex-requires c κs = omega (
-  arith,
-  c .before .before .before .before .pre,
-  ap length (reply-hex (c .before .before .before .before .args .reply .now) (c .before .if1 .left)),
-)
+put-hex-requires c κs = tt
 
 same-length : tie.Need-same-length
 same-length c = search needs
 
 returns : tie.Need-returns
-returns c = reply-dash (c .before .before .before .before .before .before .before .before .args .reply .now)
-    (c .before .before .before .before .before .before .before .before .args .out .now)
-    (c .before .before .before .before .before .before .before .before .args .at) (c .before .before .before .before .before .if1 .taken)
-    (c .before .before .before .before .before .before .before .before .pre)
-    (c .before .before .put-text .ensures)
+returns c = rw (reply-none (c .before .before .before .before .before .before .before .before .args .reply .now)
+    (c .before .before .before .before .before .if1 .taken)) (c .before .before .put-text .ensures)
 
 same-length-2 : tie.Need-same-length-2
 same-length-2 c = search needs

@@ -1,0 +1,12 @@
+pub mod Images
+pub mod Holds
+pub mod Views
+pub mod Sound
+pub mod Standing
+pub mod Not29Not14
+pub mod Guarded
+pub mod RefusedMaking
+pub mod Cases
+pub mod Accepted
+pub mod Tested
+pub mod DecisionCases

@@ -1,5 +1,0 @@
-pub mod Rules
-pub mod Answers
-pub mod Inner
-pub mod Cases
-pub mod RefusedStart

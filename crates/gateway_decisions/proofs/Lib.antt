@@ -1,2 +1,0 @@
-pub mod Served
-pub mod Cases

@@ -1,4 +1,0 @@
-pub mod Steps
-pub mod Feeding
-pub mod Closing
-pub mod Cases
