@@ -1,10 +1,11 @@
-//! `program_check NAME PROGRAM [SEED]` runs the program of this name, replay or mend, on many inputs over a pipe and compares
-//! what it writes to standard output and standard error with the reading.
+//! `program_check NAME PROGRAM [SEED]` runs the program of this name, replay, mend or decode, on many inputs over a pipe and
+//! compares what it writes to standard output and standard error with the reading.
 
 mod reading;
 mod support;
 
 use reading::capture::mend;
+use reading::decode::decode;
 use reading::replay::{hex, replay};
 use std::ffi::{OsStr, OsString};
 use std::io::{self, Write};
@@ -24,6 +25,7 @@ fn expected_of(name: &OsStr) -> Option<Expected> {
     match name.to_str()? {
         "replay" => Some(|input| (replay(input).into_bytes(), String::new())),
         "mend" => Some(mend),
+        "decode" => Some(|input| (decode(input).into_bytes(), String::new())),
         _ => None,
     }
 }
@@ -159,7 +161,7 @@ fn arguments() -> Option<(OsString, OsString, u64)> {
 
 fn main() -> io::Result<()> {
     let wrong = || -> ! {
-        eprintln!("usage: program_check replay|mend PROGRAM [SEED]");
+        eprintln!("usage: program_check replay|mend|decode PROGRAM [SEED]");
         process::exit(2)
     };
     let (name, program, seed) = arguments().unwrap_or_else(|| wrong());

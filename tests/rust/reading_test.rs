@@ -6,6 +6,7 @@ mod support;
 use reading::boundary::{Boundary, Reading};
 use reading::capture::{mend, write, Item, Mended, Reader};
 use reading::check::{check, message_check, step, TABLE};
+use reading::decode::decode;
 use reading::device::{self, Device, BUSY, INTERNAL, LOW_POWER, READY, WEAK_SIGNAL};
 use reading::gateway::{self, cut, Gateway};
 use reading::layout::{read_device, read_state, write_device, write_state, MD5_STATE};
@@ -1096,6 +1097,32 @@ fn replays(tally: &mut Tally) {
     tally.same("the recut's bytes", &recut.image[..second.len()], &second[..]);
 }
 
+/// Each row: a capture, with {Q} and {R} for those records, and its lines.
+fn decoded(tally: &mut Tally) {
+    for (capture, lines) in [
+        ("", ""),
+        ("{Q}{R}", "0 to-device query\n12 from-device download result 00\n"),
+        // Each is read as a message of its direction.
+        ("4C3C0008 FFFE01134C9A0000 4C3C0000", "0 from-device none 8 bad data\n12 from-device none 3 no FFFE\n"),
+        ("4C3E0008 FFFE01134C9B0000 {Q}", "0 to-device none 6 wrong check\n12 to-device query\n"),
+        ("{Q}4C3D {Q}", "0 to-device query\n12 20 wrong mark\n"),
+        ("{R}4C", "0 from-device download result 00\n13 21 cut short\n"),
+    ] {
+        let filled = capture.replace("{Q}", QUERY_RECORD).replace("{R}", RESULT_RECORD);
+        tally.same(capture, decode(&bytes(&filled)).as_str(), lines);
+    }
+    tally.same("01's records", decode(&captures::four_records()).as_str(), FOUR_DECODED);
+    tally.same("too long", decode(&vec![0; 32_769]).as_str(), "21\n");
+    tally.same("as long as can be", decode(&vec![0; 32_768]).as_str(), "0 20 wrong mark\n");
+}
+
+const FOUR_DECODED: &str = "\
+0 to-device query
+12 to-device announce version V1.0 size 500 total 1 code 0000
+46 to-device fragment result 00 index 0 data 16
+77 to-device execute
+";
+
 fn main() {
     let mut tally = Tally::default();
     check_rule(&mut tally);
@@ -1123,6 +1150,7 @@ fn main() {
     writer(&mut tally);
     mending(&mut tally);
     replays(&mut tally);
+    decoded(&mut tally);
     println!("reading: {} compared, {} different", tally.compared, tally.different);
     process::exit(i32::from(tally.different > 0));
 }

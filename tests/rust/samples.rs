@@ -1,4 +1,4 @@
-//! Writes the sample captures and what the replay program prints for them into a folder; of one that is damaged in several
+//! Writes the sample captures and what the programs replay and decode print for them into a folder; of one that is damaged in several
 //! places also what the mend program writes, and tells; of one whose download is damaged also the package, its MD5 as md5sum
 //! prints it, and what a device answers to which that digest was given.
 
@@ -6,6 +6,7 @@ mod reading;
 mod support;
 
 use reading::capture::{mend, Item, Reader};
+use reading::decode::decode;
 use reading::device::READY;
 use reading::md5::md5;
 use reading::message::{ANNOUNCE, BOTH_FACTS, DEVICE_ROOM};
@@ -31,22 +32,24 @@ fn write_samples(folder: &Path) -> io::Result<()> {
     fs::create_dir_all(folder)?;
     let write =
         |name: &str, kind: &str, bytes: &[u8]| fs::write(folder.join(format!("{name}.{kind}")), bytes);
+    let write_capture = |name: &str, capture: &[u8]| {
+        write(name, "capture", capture)?;
+        write(name, "expected", replay(capture).as_bytes())?;
+        write(name, "decoded", decode(capture).as_bytes())
+    };
     for (name, capture) in samples() {
-        write(name, "capture", &capture)?;
-        write(name, "expected", replay(&capture).as_bytes())?;
+        write_capture(name, &capture)?;
     }
     let (name, capture) = ("three-damages", captures::damaged_in_three_places());
     let (mended, told) = mend(&capture);
-    write(name, "capture", &capture)?;
-    write(name, "expected", replay(&capture).as_bytes())?;
+    write_capture(name, &capture)?;
     write(name, "mended", &mended)?;
     write(name, "told", told.as_bytes())?;
     let (name, (package, capture)) = ("unseen-damage", captures::unseen_damage());
     let digest = md5(&package);
     write(name, "package", &package)?;
     write(name, "md5", format!("{}  {name}.package\n", hex(&digest).to_lowercase()).as_bytes())?;
-    write(name, "capture", &capture)?;
-    write(name, "expected", replay(&capture).as_bytes())?;
+    write_capture(name, &capture)?;
     write(name, "failed", replay_with(digest, &capture).as_bytes())
 }
 

@@ -7,6 +7,7 @@
 pub mod boundary;
 pub mod capture;
 pub mod check;
+pub mod decode;
 pub mod device;
 pub mod gateway;
 pub mod layout;

@@ -1,15 +1,19 @@
-//! Inputs of the replay program.
+//! Inputs of the programs that read a capture.
 
 use super::captures::{self, all_toward_device, Server, Session, Writer, SAMPLE_SEED};
 use super::messages::{
-    self, announce, download_result, execute, fragment, no_fragment, query, upgrade_result,
+    self, announce, download_result, execute, fragment, no_fragment, query, upgrade_result, with_right_check,
 };
 use super::random::Random;
 use super::version;
 use crate::reading::capture::{FROM_DEVICE, TOWARD_DEVICE};
 use crate::reading::check::check;
+use crate::reading::decode::decode;
 use crate::reading::device::{FAILED, IDLE, INSTALLING, LOADED, LOADING};
-use crate::reading::message::{encode, rounded_up, ToGateway, Version, DEVICE_ROOM};
+use crate::reading::message::{
+    encode, rounded_up, ToGateway, Version, ANNOUNCE_ANSWERS, DEVICE_ROOM, DOWNLOAD_RESULTS, EXECUTE_ANSWERS,
+    GATEWAY_ANSWERS, HEADER, UPGRADE_RESULTS,
+};
 use crate::reading::replay::{hex, replay, IMAGE_LENGTH, INPUT_LIMIT, MAP_LENGTH};
 use std::collections::BTreeSet;
 
@@ -53,6 +57,7 @@ pub fn all_cases(seed: u64) -> Vec<Case> {
     add_marks(&mut cases);
     add_record_lengths(&mut cases);
     add_messages_by_phase(&mut cases);
+    add_messages_both_ways(&mut cases);
     add_whole_images(&mut cases);
     add_downloads(&mut cases, &mut random);
     add_random_captures(&mut cases, &mut random);
@@ -502,7 +507,56 @@ fn random_fragment(random: &mut Random, session: &Session, package: &Package) ->
     }
 }
 
-/// What the inputs must bring about, whatever the seed: every outcome, phase and fault that a replay can print.
+/// Every message of both columns, as a record of either direction: whole, then with each of the tests 3 to 7 failing, then
+/// with two bytes of data more.
+fn add_messages_both_ways(cases: &mut Cases) {
+    for message in messages_of_both_columns() {
+        let mut all = vec![message.clone()];
+        for place in 1..5 {
+            let mut other = message.clone();
+            other[place] ^= 0x22;
+            all.push(other);
+        }
+        all.extend(with_right_check(vec![[&message[..], &[0]].concat()]));
+        all.push(encode(message[3], &[&message[HEADER..], &[0, 0]].concat()));
+        let mut capture = Writer { bytes: Vec::new() };
+        for message in &all {
+            capture.add_toward_device(message);
+            capture.add_from_device(message);
+        }
+        cases.add(format!("either way, {}", hex(&message[..message.len().min(40)])), capture.bytes);
+    }
+}
+
+/// Texts of every length among them, and the results that the table allows.
+fn messages_of_both_columns() -> Vec<Vec<u8>> {
+    let texts = (1..=16).map(|length| version(&"V_0.9-az10ABCDEF"[..length]));
+    let mut messages = vec![query(), execute(), announce(version("V1.0"), 1_024, 65_535, 0xABCD)];
+    messages.extend([fragment(65_535, &[0x41; 1_024]), fragment(0, &[0x41])]);
+    messages.extend([0x80, 0x81].map(|result| no_fragment(result, 9)));
+    messages.extend(GATEWAY_ANSWERS.map(download_result));
+    messages.extend(GATEWAY_ANSWERS.map(upgrade_result));
+    let mut to_gateway = Vec::new();
+    for text in texts {
+        messages.push(announce(text, 32, 1, 0));
+        to_gateway.extend([
+            ToGateway::Query { version: text },
+            ToGateway::Fragment { version: text, index: 10 },
+            ToGateway::UpgradeResult { result: 0x00, version: text },
+        ]);
+    }
+    to_gateway.extend(ANNOUNCE_ANSWERS.map(|result| ToGateway::Announce { result }));
+    to_gateway.extend(DOWNLOAD_RESULTS.map(|result| ToGateway::DownloadResult { result }));
+    to_gateway.extend(EXECUTE_ANSWERS.map(|result| ToGateway::Execute { result }));
+    to_gateway
+        .extend(UPGRADE_RESULTS.map(|result| ToGateway::UpgradeResult { result, version: version("V1.0") }));
+    messages
+        .extend(to_gateway.iter().map(|message| message.write(DEVICE_ROOM).expect("the table allows it")));
+    messages
+}
+
+/// What the inputs must bring about, whatever the seed: every outcome, phase and fault that a replay can print, and
+/// every name and reason in the lines of decode.
 pub fn not_reached(cases: &[Case]) -> Vec<String> {
     let mut seen = BTreeSet::new();
     for case in cases {
@@ -515,10 +569,25 @@ pub fn not_reached(cases: &[Case]) -> Vec<String> {
                 _ => seen.extend([format!("fault {}", line)]),
             }
         }
+        for line in decode(&case.input).lines() {
+            let words: Vec<&str> = line.split(' ').collect();
+            match words[..] {
+                [_, direction, "none", number, ..] => seen.insert(format!("{} none {}", direction, number)),
+                [_, direction, name, ..] => seen.insert(format!("{} {}", direction, name)),
+                _ => seen.insert(format!("line {}", line)),
+            };
+        }
     }
     let outcomes = [0, 3, 4, 5, 6, 7, 8, 9, 10, 11, 12].map(|number| format!("outcome {}", number));
     let phases = [0, 1, 2, 3, 4, 5].map(|phase| format!("phase {}", phase));
     let faults = [20, 21].map(|number| format!("fault {}", number));
-    let all = outcomes.into_iter().chain(phases).chain(faults);
+    let names = ["query", "announce", "fragment", "download", "execute", "result"].map(str::to_string);
+    let reasons = [3, 4, 5, 6, 7, 8].map(|number| format!("none {}", number));
+    let lines = names
+        .into_iter()
+        .chain(reasons)
+        .flat_map(|line| ["to-device", "from-device"].map(|direction| format!("{} {}", direction, line)));
+    let stops = ["20 wrong", "21 cut", "line 21"].map(str::to_string);
+    let all = outcomes.into_iter().chain(phases).chain(faults).chain(lines).chain(stops);
     all.filter(|wanted| !seen.contains(wanted)).collect()
 }
