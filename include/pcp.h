@@ -5,7 +5,8 @@
    ends: it reads what arrives, keeps the upgrade's state, and writes what is to
    be sent.  It sends and receives nothing itself, knows no clock and allocates
    nothing: its caller, the host, owns radio, timers and flash.  What a host has
-   to know is in this file.
+   to do around these calls is done by the drivers of pcp_driver.h: begin there.
+   What a host has to know that makes the calls itself is in this file.
 
    The functions to call:
 
@@ -25,6 +26,8 @@
        pcp_recognise_message        is this a PCP message; if not, why not
        pcp_check_of_message         the check that a message ought to carry
        pcp_check_of_bytes           the check of any bytes
+       pcp_reason                   what a number means, in words
+       pcp_version                  the version of this library
 
    and, to look into a record: pcp_device_phase, pcp_device_running,
    pcp_device_target, pcp_device_size, pcp_device_total, pcp_device_code,
@@ -39,6 +42,10 @@
    heap:
 
        cc -std=c99 -Iinclude gateway.c -Ltarget/staticlib -lpcp -o gateway
+
+   Installed (scripts/install PREFIX), pkg-config knows it:
+
+       cc -std=c99 gateway.c $(pkg-config --cflags --libs pcp) -o gateway
 
    Bytes are in hex (80), all other numbers are decimal.  "Asked" is a device or
    gateway on which ..._next_message is called.
@@ -573,6 +580,19 @@
 extern "C" {
 #endif
 
+/* The version of this library, as numbers and as a text.  The numbers stand
+   here alone: all else that names the version is compared with them. */
+#define PCP_VERSION_MAJOR 0
+#define PCP_VERSION_MINOR 1
+#define PCP_VERSION_PATCH 0
+#define PCP_VERSION_STRING                                                     \
+    PCP_TEXT_OF(PCP_VERSION_MAJOR)                                             \
+    "." PCP_TEXT_OF(PCP_VERSION_MINOR) "." PCP_TEXT_OF(PCP_VERSION_PATCH)
+
+/* A macro's value as a text.  Used by the line above only. */
+#define PCP_TEXT_OF(value) PCP_TEXT(value)
+#define PCP_TEXT(text) #text
+
 /* The numbers that calls give.  A message too short to hold the field that one
    of the tests 3 to 7 looks at fails that test. */
 enum {
@@ -824,6 +844,79 @@ uint32_t pcp_raw_gateway_next_message(const uint8_t *record,
                                       const uint8_t *package,
                                       size_t package_length, uint8_t *reply,
                                       size_t reply_length);
+
+/* The version of this library: of its headers, for the archive has none of its
+   own. */
+static inline const char *pcp_version(void)
+{
+    return PCP_VERSION_STRING;
+}
+
+/* What a number means, in words, for a log or a person.  One that no call gives
+   is an unknown number.  The crate for Rust says the same. */
+static inline const char *pcp_reason(int number)
+{
+    switch (number) {
+    case PCP_HANDLED:
+        return "handled";
+    case PCP_UNSUPPORTED:
+        return "the device does not support software upgrade";
+    case PCP_OTHER_PROTOCOL:
+        return "the device is upgraded by another protocol";
+    case PCP_BAD_START:
+        return "not the start of a PCP message";
+    case PCP_BAD_VERSION:
+        return "unknown protocol version";
+    case PCP_BAD_CODE:
+        return "unknown message code";
+    case PCP_BAD_CHECK:
+        return "wrong check, or cut short before the data";
+    case PCP_BAD_LENGTH:
+        return "wrong data length";
+    case PCP_BAD_DATA:
+        return "the data is not what this code carries toward this end";
+    case PCP_NO_USE:
+        return "this phase has no use for it";
+    case PCP_BAD_INDEX:
+        return "no such fragment";
+    case PCP_BAD_FRAGMENT_LENGTH:
+        return "wrong fragment length";
+    case PCP_ALREADY_STORED:
+        return "fragment already stored";
+    case PCP_UNKNOWN_CONDITION:
+        return "unknown condition";
+    case PCP_BAD_MEMORY:
+        return "image or map too short for the download, or package of "
+               "another length than at the start";
+    case PCP_SHORT_REPLY:
+        return "reply buffer too short";
+    case PCP_BAD_INSTALL_CODE:
+        return "unknown installer code";
+    case PCP_BAD_VERSION_TEXT:
+        return "bad version text";
+    case PCP_BAD_SIZE:
+        return "fragment size not from 32 to 1024";
+    case PCP_BAD_PACKAGE:
+        return "package empty, or longer than 65,535 fragments";
+    case PCP_BAD_MARK:
+        return "no record of a capture begins here";
+    case PCP_CUT_SHORT:
+        return "a record of a capture is not whole";
+    case PCP_DOES_NOT_FIT:
+        return "no room for a record, or its message is longer than 65,535 "
+               "bytes";
+    case PCP_REPEAT_DIFFERS:
+        return "fragment already stored with other bytes: the download has "
+               "failed";
+    case PCP_BAD_RECORD:
+        return "not a record, or not this map's";
+    case PCP_SHORT_RECORD:
+        return "buffer too short for a record or for MD5's state, or a "
+               "digest's of another length";
+    default:
+        return "unknown number";
+    }
+}
 
 /* Looking into a record, of PCP_DEVICE_RECORD or PCP_GATEWAY_RECORD bytes.
    Nothing is tested here: look after a call that gave 0 or 23. */

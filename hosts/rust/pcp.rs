@@ -11,6 +11,7 @@
 //!   [`give_digest`](Device::give_digest) where the package's MD5 is known
 //! - [`Gateway`] is the gateway's: [`start`](Gateway::start), [`receive`](Gateway::receive),
 //!   [`next_message`](Gateway::next_message)
+//! - [`driver`] does for either end what a host has to do around these calls, but for radio, clock and storage: begin there
 //! - [`capture`] writes, reads and mends captures of exchanges
 //! - [`md5`] gives MD5 digests, whole or in pieces
 //! - a call gives an answer, or a [`Refusal`], and then it has changed nothing, but for
@@ -294,10 +295,13 @@ use core::fmt;
 use core::ops::Range;
 
 pub mod capture;
+pub mod driver;
 pub mod md5;
 #[allow(missing_docs)] // the calls' names are those of the methods here
 pub mod raw;
 
+/// The version of this library: that of `include/pcp.h`, and of this crate.
+pub const VERSION: &str = "0.1.0";
 /// The smallest fragment size.
 pub const SIZE_MIN: u16 = 32;
 /// The largest fragment size.
@@ -525,6 +529,13 @@ impl Refusal {
 pub struct Version([u8; VERSION_LENGTH]);
 
 impl Version {
+    /// The version with this text.
+    ///
+    /// Refusals: BadVersionText.
+    pub fn new(text: &[u8]) -> Result<Version, Refusal> {
+        Device::new(text).map(|device| device.running())
+    }
+
     fn at(record: &[u8], place: usize) -> Version {
         let mut version = [0; VERSION_LENGTH];
         version.copy_from_slice(&record[place..place + VERSION_LENGTH]);
