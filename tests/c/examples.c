@@ -6,11 +6,11 @@
    the image; an order to install that was accepted must be known; what is
    installed must be the package, and not run already; and in the end the device
    must run it. */
+#define TEST "examples"
 #include "pcp.h"
+#include "testing.h"
 
 #include <setjmp.h>
-#include <stdio.h>
-#include <stdlib.h>
 
 enum {
     IMAGE = 0, /* places in flash */
@@ -26,25 +26,6 @@ enum {
 
 static const uint8_t old_version[PCP_VERSION_LENGTH] = "V1.0";
 static const uint8_t new_version[PCP_VERSION_LENGTH] = "V2.0";
-
-/* Random numbers that a seed fixes (xorshift64). */
-static uint64_t random_state;
-
-static uint32_t below(uint32_t bound)
-{
-    random_state ^= random_state << 13;
-    random_state ^= random_state >> 7;
-    random_state ^= random_state << 17;
-    return (uint32_t)(random_state >> 32) % bound;
-}
-
-static void expect(int holds, const char *what)
-{
-    if (holds)
-        return;
-    fprintf(stderr, "examples: %s\n", what);
-    exit(EXIT_FAILURE);
-}
 
 /* The batteries.  Each has so many steps left; 0: it stays in. */
 static jmp_buf pulled;

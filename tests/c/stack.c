@@ -5,6 +5,7 @@
    was measured, or more than STATED times as much and a little. */
 #define _XOPEN_SOURCE 700 /* for ucontext.h */
 #include "pcp_capture.h"
+#include "pcp_driver.h"
 #include "pcp_md5.h"
 
 #include <stdio.h>
@@ -183,6 +184,55 @@ static void md5_finish(void)
     result = pcp_md5_finish(state, state_room, digest, sizeof digest);
 }
 
+/* The drivers, over the same package; what they save is taken up again. */
+static pcp_driver_config config;
+static pcp_device_driver device_driver;
+static pcp_gateway_driver gateway_driver;
+static uint8_t driven_image[PACKAGE + 1]; /* enough for some sizes */
+static uint8_t device_state[PCP_DEVICE_STATE(sizeof driven_image)];
+static uint8_t device_slots[2][sizeof device_state];
+static uint8_t gateway_slots[2][PCP_GATEWAY_STATE];
+static pcp_action action;
+static uint64_t now;
+
+static void device_driver_start(void)
+{
+    result = pcp_device_driver_start(
+        &device_driver, &config, "V1.0", 4, driven_image, sizeof driven_image,
+        device_state, sizeof device_state, device_slots[0],
+        sizeof device_slots[0], device_slots[1], sizeof device_slots[1], now);
+}
+
+static void device_driver_receive(void)
+{
+    result = pcp_device_driver_receive(&device_driver, now, PCP_READY,
+                                       to_device, to_device_length);
+}
+
+static void device_driver_poll(void)
+{
+    action = pcp_device_driver_poll(&device_driver, now);
+}
+
+static void gateway_driver_start(void)
+{
+    result = pcp_gateway_driver_start(
+        &gateway_driver, &config, "V2.0", 4, package, sizeof package,
+        gateway_slots[0], sizeof gateway_slots[0], gateway_slots[1],
+        sizeof gateway_slots[1], now);
+}
+
+static void gateway_driver_receive(void)
+{
+    result = pcp_gateway_driver_receive(&gateway_driver, now, to_gateway,
+                                        to_gateway_length);
+}
+
+static void gateway_driver_poll(void)
+{
+    action = pcp_gateway_driver_poll(&gateway_driver, now);
+}
+
 enum {
     CHECK,
     MESSAGE_CHECK,
@@ -202,6 +252,12 @@ enum {
     MD5_NEW,
     MD5_FEED,
     MD5_FINISH,
+    DEVICE_DRIVER_START,
+    DEVICE_DRIVER_RECEIVE,
+    DEVICE_DRIVER_POLL,
+    GATEWAY_DRIVER_START,
+    GATEWAY_DRIVER_RECEIVE,
+    GATEWAY_DRIVER_POLL,
     CALLS
 };
 
@@ -225,6 +281,15 @@ static measured calls[CALLS] = {
     [MD5_NEW] = {"pcp_md5_new", md5_new, 0},
     [MD5_FEED] = {"pcp_md5_feed", md5_feed, 0},
     [MD5_FINISH] = {"pcp_md5_finish", md5_finish, 0},
+    [DEVICE_DRIVER_START] = {"pcp_device_driver_start", device_driver_start, 0},
+    [DEVICE_DRIVER_RECEIVE] = {"pcp_device_driver_receive",
+                               device_driver_receive, 0},
+    [DEVICE_DRIVER_POLL] = {"pcp_device_driver_poll", device_driver_poll, 0},
+    [GATEWAY_DRIVER_START] = {"pcp_gateway_driver_start", gateway_driver_start,
+                              0},
+    [GATEWAY_DRIVER_RECEIVE] = {"pcp_gateway_driver_receive",
+                                gateway_driver_receive, 0},
+    [GATEWAY_DRIVER_POLL] = {"pcp_gateway_driver_poll", gateway_driver_poll, 0},
 };
 
 /* The upgrade. */
@@ -348,6 +413,77 @@ static void upgrade(void)
     measure(&calls[GATEWAY_NEXT]);
 }
 
+/* Polls until the driver waits; of what it sends, the last is delivered.  Tells
+   when it wants to be polled again. */
+static uint64_t drive_device(void)
+{
+    for (;;) {
+        measure(&calls[DEVICE_DRIVER_POLL]);
+        if (action.kind == PCP_ACTION_WAIT)
+            return action.until;
+        if (action.kind == PCP_ACTION_SAVE)
+            memcpy(device_slots[action.slot], action.bytes, action.length);
+        if (action.kind == PCP_ACTION_SEND)
+            memcpy(to_gateway, action.bytes, to_gateway_length = action.length);
+        if (action.kind == PCP_ACTION_INSTALL)
+            pcp_device_driver_installed(&device_driver, PCP_INSTALLED);
+    }
+}
+
+static uint64_t drive_gateway(void)
+{
+    for (;;) {
+        measure(&calls[GATEWAY_DRIVER_POLL]);
+        if (action.kind == PCP_ACTION_WAIT || action.kind == PCP_ACTION_END)
+            return action.until;
+        if (action.kind == PCP_ACTION_SAVE)
+            memcpy(gateway_slots[action.slot], action.bytes, action.length);
+        if (action.kind == PCP_ACTION_SEND)
+            memcpy(to_device, action.bytes, to_device_length = action.length);
+    }
+}
+
+/* An upgrade by the drivers, which begins with a size that the device does not
+   take, so that others are looked for.  Both restart in it, and the device is
+   given the package's digest. */
+static uint8_t driven_upgrade(void)
+{
+    uint64_t device_wake, gateway_wake;
+    int restarted = 0;
+
+    config = pcp_driver_defaults();
+    config.size = 33;
+    config.size_most = SIZE;
+    memcpy(config.digest_version, "V2.0", 4);
+    memcpy(config.digest, digest, sizeof config.digest);
+    memset(device_slots, 0, sizeof device_slots);
+    memset(gateway_slots, 0, sizeof gateway_slots);
+    now = 0;
+    measure(&calls[DEVICE_DRIVER_START]);
+    measure(&calls[GATEWAY_DRIVER_START]);
+    for (;;) {
+        to_gateway_length = to_device_length = 0;
+        device_wake = drive_device();
+        gateway_wake = drive_gateway();
+        if (action.kind == PCP_ACTION_END)
+            return pcp_gateway_driver_outcome(&gateway_driver);
+        if (to_device_length + to_gateway_length == 0)
+            now = device_wake < gateway_wake ? device_wake : gateway_wake;
+        if (to_device_length > 0)
+            measure(&calls[DEVICE_DRIVER_RECEIVE]);
+        if (to_gateway_length > 0)
+            measure(&calls[GATEWAY_DRIVER_RECEIVE]);
+        if (!restarted &&
+            pcp_device_stored(pcp_device_driver_record(&device_driver)) > 1) {
+            restarted = 1;
+            drive_device();
+            drive_gateway();
+            measure(&calls[DEVICE_DRIVER_START]);
+            measure(&calls[GATEWAY_DRIVER_START]);
+        }
+    }
+}
+
 /* The manual's table has the rows | `call` | bytes |. */
 
 static size_t stated_in(const char *manual, const char *name)
@@ -399,7 +535,8 @@ int main(int count, char **arguments)
         calls[i].most = 0;
     upgrade();
     if (pcp_gateway_phase(gateway) != PCP_GATEWAY_ENDED ||
-        pcp_gateway_ending(gateway) != PCP_ENDING_SUCCESS) {
+        pcp_gateway_ending(gateway) != PCP_ENDING_SUCCESS ||
+        driven_upgrade() != PCP_OUTCOME_SUCCESS) {
         fputs("stack: the upgrade did not succeed\n", stderr);
         return EXIT_FAILURE;
     }
