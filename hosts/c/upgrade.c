@@ -1,63 +1,72 @@
-/* upgrade [--capture FILE] [--digest HEX] PACKAGE [SEED [SIZE]] - upgrades a
-   simulated device from a package file, over a simulated link that loses,
-   repeats, delays and reorders messages, and is down at times.  The seed, a
-   number, fixes what goes wrong.  The size is that of a fragment: as in public
-   platforms' packages, if none is given.  With a file, the exchange is recorded
-   there as a capture: what arrives at the device, and what it sends.  With a
-   digest, the package's MD5 in 32 hex digits as md5sum prints it, the device
-   tests the image by that too.
+/* upgrade [--capture FILE] [--digest HEX] PACKAGE [SEED [SIZE]]
+   upgrade --udp device [OPTION VALUE].. FOLDER
+   upgrade --udp gateway [OPTION VALUE].. FOLDER VERSION PACKAGE
 
-   This is an example of both hosts of pcp.h.  Device and gateway know of each
-   other only what the link brings.  What a host has to do, and can be copied:
+   Upgrades a simulated device from a package file, over a simulated link that
+   loses, repeats, delays and reorders messages, and is down at times.  Either
+   end's process is killed at times, between any two things that it does, and
+   started again from what it had saved.  The seed, a number, fixes what goes
+   wrong.  The size is that of a fragment: as in public platforms' packages, if
+   none is given.  With a file, the exchange is recorded there as a capture:
+   what arrives at the device, and what it sends.  With a digest, the package's
+   MD5 in 32 hex digits as md5sum prints it, the device tests the image by that
+   too.  With --udp it is one end alone, over UDP: udp.c.
 
-   - device_receive, gateway_receive: lend the buffers, send the reply, and ask
-     at once if the record has changed
-   - device_ask, gateway_ask: send what the end has to send; by a timer, for a
-     message may have been lost
-   - device_give_digest: gives the package's MD5 when its download has begun
-   - device_install, device_tick: the installer, begun once and only with what
-     the image holds, and its end reported
-   - is_wanted, gateway_tick, gateway_next: which messages the gateway leaves
-     unanswered, and when a new gateway takes over
+   This is an example of both hosts over the drivers of pcp_driver.h.  Device
+   and gateway know of each other only what the link brings.  What a host has to
+   do, and can be copied:
 
-   hosts/rust/upgrade.rs is the same program in Rust, and prints the same. */
+   - device_start, gateway_start: start the driver, with what the slots hold
+   - device_turn, gateway_turn: do what the driver tells, until it waits
+   - device_receive, gateway_receive: hand in what arrived
+
+   The rest is the simulation, and the account of it.  hosts/rust/upgrade.rs is
+   the same program in Rust, and prints the same. */
+#include "upgrade.h"
+
 #include "pcp_capture.h"
 
 #include <errno.h>
-#include <stdbool.h>
-#include <stdio.h>
 #include <stdlib.h>
 #include <string.h>
 
 #define RUNNING "V1.0" /* the version on the device */
 #define TARGET "V2.0"  /* the version of the package */
 
-enum {
-    SMALLER = 16, /* how much the other size is smaller, see gateway_next */
-    MOST_PACKAGE = PCP_SIZE_MAX * 65535,
-    IMAGE_LENGTH = 1 << 20,             /* the device's flash for a package */
-    MAP_LENGTH = IMAGE_LENGTH / 32 / 8, /* enough for the smallest fragments */
-    ERASED = 0xFF                       /* a byte of erased flash */
-};
+enum { ERASED = 0xFF }; /* a byte of erased flash */
 
 /* Time passes in ticks. */
 enum {
-    LONGEST_DELAY = 8,             /* of a message on the link */
-    QUIET = 2 * LONGEST_DELAY + 1, /* a message and its reply have arrived */
-    RETRY = 20,                    /* without an answer: send again */
-    INSTALLATION = 40,             /* what the installer takes */
-    STANDSTILL = 200,              /* without a message: start anew; must be
-                                      longer than an installation */
-    OUTAGE = 300,                  /* how long the link is down */
-    MOST_TICKS = 2000000           /* then the program gives up */
+    LONGEST_DELAY = 8,     /* of a message on the link */
+    INSTALLATION = 40,     /* what the installer takes */
+    OUTAGE = 300,          /* how long the link is down */
+    AWAY = 25,             /* how long a process that was killed */
+    MOST_TICKS = 2000000   /* then the program gives up */
 };
 
-/* How often things go wrong: once in so many times. */
-enum { LOST = 6, REPEATED = 10, DOWN = 1500, BUSY = 8 };
+/* How often things go wrong: once in so many times.  A process is killed before
+   something that it is to do. */
+enum { LOST = 6, REPEATED = 10, DOWN = 1500, BUSY = 8, KILLED = 500 };
 
-/* Gateways in a row that were asked for nothing, and downloads that failed; then
-   the program gives up. */
-enum { MOST_FRUITLESS = 10, MOST_FAILED = 2 };
+/* The times and limits of both ends.  A digest is the package's, and so belongs
+   to the version that this brings; the driver gives it to the device. */
+static pcp_driver_config settings(uint16_t size, const uint8_t *digest)
+{
+    pcp_driver_config config = pcp_driver_defaults();
+
+    config.retry = 20;
+    config.quiet = 2 * LONGEST_DELAY + 1; /* a message and its reply are here */
+    config.installation = 200;
+    config.later = 50;
+    config.linger = 200;
+    config.time_limit = MOST_TICKS;
+    config.size = size;
+    if (digest != NULL) {
+        memcpy(config.digest_version, TARGET, strlen(TARGET));
+        memcpy(config.digest, digest, PCP_DIGEST_LENGTH);
+    }
+    return config;
+}
 
 /* Random numbers that a seed fixes (SplitMix64). */
 
@@ -150,72 +159,87 @@ static bool link_take(struct link *link, unsigned long now,
 
 /* Both hosts. */
 
-/* Bytes from the air can be refused with any of 1 to 12, which is no concern:
-   they are dropped.  A higher number means that this program lends or states
-   something wrong, and going on would not mend it. */
-static void note_number(const char *call, uint8_t number)
+void capture_message(FILE *capture, bool toward_device, const uint8_t *message,
+                     size_t length)
 {
-    if (number < PCP_UNKNOWN_CONDITION || number == PCP_REPEAT_DIFFERS)
-        return;
-    fprintf(stderr, "upgrade: %s refused with %u\n", call, (unsigned)number);
-    exit(EXIT_FAILURE);
-}
-
-static uint8_t code_of(const struct message *message)
-{
-    return message->length > 3 ? message->bytes[3] : 0;
-}
-
-/* A record of the exchange.  There may be no capture, and an empty message is
-   none. */
-static void capture_message(FILE *capture, bool toward_device,
-                            const uint8_t *message, size_t length)
-{
-    uint8_t record[PCP_CAPTURE_HEADER + PCP_GATEWAY_REPLY];
+    uint8_t record[PCP_CAPTURE_HEADER + MOST_MESSAGE];
     pcp_written written;
 
     if (capture == NULL || length == 0)
         return;
     written = pcp_capture_write(toward_device, message, length, record,
                                 sizeof record, 0);
-    note_number("pcp_capture_write", written.number);
-    fwrite(record, 1, written.next, capture); /* main sees if it failed */
+    fwrite(record, 1, written.next, capture);
+    fflush(capture); /* the caller sees by ferror if it failed */
+}
+
+const char *gateway_phase_name(uint8_t phase)
+{
+    static const char *const names[] = {"Ask", "Offer", "Serve", "Run",
+                                        "Ended"};
+
+    return names[phase];
 }
 
 /* The device's host. */
 
 struct device {
-    uint8_t record[PCP_DEVICE_RECORD];
-    uint8_t image[IMAGE_LENGTH];
-    uint8_t map[MAP_LENGTH];
+    pcp_device_driver driver;
+    bool up;               /* the process runs; if not, */
+    unsigned long up_at;   /* it starts then */
+    const char *version;   /* the one that runs */
+    uint8_t image[IMAGE_LENGTH], state[STATE_LENGTH]; /* gone when killed */
+    uint8_t flash[IMAGE_LENGTH], slots[2][STATE_LENGTH]; /* not gone */
+    unsigned long installed_at; /* when the installer will be done; 0: it is not
+                                   at work */
+    size_t installed; /* bytes of what was installed */
     uint64_t random;
-    FILE *capture;              /* of the exchange; NULL if it is not recorded */
-    const uint8_t *digest;      /* the package's; NULL if it is not known */
-    unsigned long ask_at;       /* when to ask for the next message */
-    bool installing;            /* the installer is at work */
-    unsigned long installed_at; /* and will be done */
-    unsigned long resumes, stored, repeated, digests, other_digests;
+    FILE *capture; /* of the exchange; NULL if it is not recorded */
+    unsigned long stored, repeated, killed, tested, failed;
 };
 
-/* The map is not cleared: an announcement does it. */
-static void device_start(struct device *device, uint64_t seed, FILE *capture,
-                         const uint8_t *digest)
+static void device_start(struct device *device, const pcp_driver_config *config,
+                         unsigned long now)
 {
-    memset(device, 0, sizeof *device);
-    memset(device->image, ERASED, sizeof device->image);
-    memset(device->map, ERASED, sizeof device->map);
-    device->random = seed;
-    device->capture = capture;
-    device->digest = digest;
-    note_number("pcp_device_new",
-                pcp_device_new(device->record, sizeof device->record, RUNNING,
-                               strlen(RUNNING)));
+    memcpy(device->image, device->flash, sizeof device->image);
+    pcp_device_driver_start(&device->driver, config, device->version,
+                            strlen(device->version), device->image,
+                            sizeof device->image, device->state,
+                            sizeof device->state, device->slots[0],
+                            sizeof device->slots[0], device->slots[1],
+                            sizeof device->slots[1], now);
+    device->up = true;
 }
 
-/* A device would look at its battery, its signal and its own work. */
-static uint8_t device_condition(struct device *device)
+/* What was in memory is gone, and an installation cut off. */
+static void device_kill(struct device *device, unsigned long now)
 {
-    return once_in(&device->random, BUSY) ? PCP_BUSY : PCP_READY;
+    memset(&device->driver, ERASED, sizeof device->driver);
+    device->up = false;
+    device->up_at = now + AWAY;
+    device->installed_at = 0;
+    device->killed++;
+    printf("tick %lu: the device restarts\n", now);
+}
+
+/* A real installer copies these bytes to where they run. */
+static void device_install(struct device *device, unsigned long now,
+                           size_t length)
+{
+    device->installed = length;
+    device->installed_at = now + INSTALLATION;
+}
+
+/* Half of the installers restart the device: the driver hears of it by the
+   version that runs then. */
+static void device_installed(struct device *device, unsigned long now)
+{
+    device->installed_at = 0;
+    device->version = TARGET;
+    if (once_in(&device->random, 2))
+        device_kill(device, now);
+    else
+        pcp_device_driver_installed(&device->driver, PCP_INSTALLED);
 }
 
 static void device_send(struct device *device, struct link *link,
@@ -225,347 +249,214 @@ static void device_send(struct device *device, struct link *link,
     link_send(link, now, GATEWAY, bytes, length);
 }
 
-/* For the account.  An offer that was accepted and changed nothing is a
-   resume. */
-static void device_count(struct device *device, const struct message *message,
-                         pcp_answer answer, const uint8_t *reply)
+static void device_turn(struct device *device, struct link *link,
+                        unsigned long now)
 {
-    bool accepted = answer.length > 8 && reply[8] == 0x00;
+    for (;;) {
+        pcp_action action = pcp_device_driver_poll(&device->driver, now);
 
-    if (answer.image_length > 0)
-        device->stored++;
-    if (answer.number == PCP_ALREADY_STORED)
-        device->repeated++;
-    if (code_of(message) == PCP_ANNOUNCE && accepted && !answer.changed)
-        device->resumes++;
+        if (action.kind == PCP_ACTION_WAIT)
+            return;
+        if (once_in(&device->random, KILLED)) {
+            device_kill(device, now);
+            return;
+        }
+        switch (action.kind) {
+        case PCP_ACTION_WRITE:
+            memcpy(device->flash + action.at, action.bytes, action.length);
+            device->stored++;
+            break;
+        case PCP_ACTION_SAVE:
+            memcpy(device->slots[action.slot], action.bytes, action.length);
+            break;
+        case PCP_ACTION_SEND:
+            device_send(device, link, now, action.bytes, action.length);
+            break;
+        case PCP_ACTION_INSTALL:
+            device_install(device, now, action.length);
+        }
+    }
 }
 
-static bool is_target(const uint8_t *version)
+/* A device would look at its battery, its signal and its own work. */
+static uint8_t device_condition(struct device *device)
 {
-    uint8_t target[PCP_VERSION_LENGTH] = TARGET;
-
-    return memcmp(version, target, sizeof target) == 0;
+    return once_in(&device->random, BUSY) ? PCP_BUSY : PCP_READY;
 }
 
-/* The package's MD5, which a platform states with the package.  It is given when
-   an announcement has begun a download, and only if that is of the version which
-   it belongs to: the call itself names none.  A resume keeps it, so it is not
-   given again.  A device that saves does so after this, and before its reply to
-   the announcement is sent. */
-static void device_give_digest(struct device *device)
+/* What comes last leaves the device in one of these. */
+static bool device_has_all(const uint8_t *record)
 {
-    uint8_t number;
-
-    if (device->digest == NULL || !is_target(pcp_device_target(device->record)))
-        return;
-    number = pcp_device_give_digest(device->record, sizeof device->record,
-                                    device->digest, PCP_DIGEST_LENGTH);
-    note_number("pcp_device_give_digest", number);
-    device->digests += number == PCP_HANDLED;
+    return pcp_device_phase(record) == PCP_DEVICE_LOADED ||
+           (pcp_device_phase(record) == PCP_DEVICE_FAILED &&
+            pcp_device_stored(record) == pcp_device_total(record));
 }
 
-/* For the account: all is stored, and did not pass. */
-static void device_failed(struct device *device, unsigned long now)
+/* For the account: all is stored, and was tested. */
+static void device_tested(struct device *device, unsigned long now)
 {
-    uint16_t code = pcp_device_code(device->record);
-    uint16_t check = pcp_check_of_bytes(
-        device->image, pcp_device_image_length(device->record));
+    const uint8_t *record = pcp_device_driver_record(&device->driver);
+    uint16_t code = pcp_device_code(record);
+    uint16_t check =
+        pcp_check_of_bytes(device->image, pcp_device_image_length(record));
     bool by_digest = code == 0 || code == check;
 
-    device->other_digests += by_digest;
+    device->tested += pcp_device_digest_set(record);
+    if (pcp_device_phase(record) != PCP_DEVICE_FAILED)
+        return;
+    device->failed += by_digest;
     printf("tick %lu: all is stored, and the image's %s\n", now,
            by_digest ? "MD5 is not the one given"
                      : "check is not the one announced");
 }
 
-/* Begun once, whatever arrives meanwhile.  A real installer copies the first
-   pcp_device_image_length bytes of the image to where they run.  In Installing
-   the library no longer compares that length with the image, so this is done
-   here: a longer one can only stand in a record that somebody else wrote. */
-static void device_install(struct device *device, unsigned long now)
-{
-    if (device->installing)
-        return;
-    if (pcp_device_image_length(device->record) > sizeof device->image)
-        note_number("pcp_device_image_length", PCP_BAD_RECORD);
-    device->installing = true;
-    device->installed_at = now + INSTALLATION;
-}
-
-/* A repeat that differs changes the record too, to Failed, and is told when the
-   device is asked.  The phase is looked at only when the number is 0: a record
-   that was refused may be none.  A device that is to go on after a restart would
-   save, if the record has changed, before it sends the reply; pcp.h has an
-   example of that.  Only a changed record is a reason to ask at once: a host that
-   asked after every arrival would double all that follows a repeated message. */
 static void device_receive(struct device *device, struct link *link,
                            unsigned long now, const struct message *message)
 {
-    uint8_t reply[PCP_DEVICE_REPLY];
-    pcp_answer answer = pcp_device_receive(
-        device->record, sizeof device->record, 1, 1, device_condition(device),
-        message->bytes, message->length, device->image, sizeof device->image,
-        device->map, sizeof device->map, reply, sizeof reply);
+    const uint8_t *record;
+    uint8_t number, before;
 
-    capture_message(device->capture, true, message->bytes, message->length);
-    note_number("pcp_device_receive", answer.number);
-    device_count(device, message, answer, reply);
-    if (answer.changed)
-        device->ask_at = now;
-    if (answer.number != PCP_HANDLED)
+    if (!device->up)
         return;
-    if (code_of(message) == PCP_ANNOUNCE && answer.changed)
-        device_give_digest(device);
-    if (answer.image_length > 0 &&
-        pcp_device_phase(device->record) == PCP_DEVICE_FAILED)
-        device_failed(device, now);
-    device_send(device, link, now, reply, answer.length);
-    if (pcp_device_phase(device->record) == PCP_DEVICE_INSTALLING)
-        device_install(device, now);
-}
-
-/* Asking changes nothing, so it is done again until an answer has come. */
-static void device_ask(struct device *device, struct link *link,
-                       unsigned long now)
-{
-    uint8_t reply[PCP_DEVICE_REPLY];
-    pcp_answer answer = pcp_device_next_message(
-        device->record, sizeof device->record, device->image,
-        sizeof device->image, device->map, sizeof device->map, reply,
-        sizeof reply);
-
-    note_number("pcp_device_next_message", answer.number);
-    device_send(device, link, now, reply, answer.length);
-    device->ask_at = now + RETRY;
-}
-
-static void device_installed(struct device *device, unsigned long now)
-{
-    device->installing = false;
-    note_number("pcp_device_install_finished",
-                pcp_device_install_finished(device->record,
-                                            sizeof device->record,
-                                            PCP_INSTALLED));
-    device->ask_at = now; /* the report */
+    record = pcp_device_driver_record(&device->driver);
+    before = pcp_device_phase(record);
+    capture_message(device->capture, true, message->bytes, message->length);
+    number = pcp_device_driver_receive(&device->driver, now,
+                                       device_condition(device), message->bytes,
+                                       message->length);
+    if (number == PCP_ALREADY_STORED)
+        device->repeated++;
+    if (before == PCP_DEVICE_LOADING && device_has_all(record))
+        device_tested(device, now);
+    device_turn(device, link, now);
 }
 
 static void device_tick(struct device *device, struct link *link,
-                        unsigned long now)
+                        const pcp_driver_config *config, unsigned long now)
 {
-    if (device->installing && now >= device->installed_at)
+    if (!device->up && now >= device->up_at)
+        device_start(device, config, now);
+    if (device->installed_at > 0 && now >= device->installed_at)
         device_installed(device, now);
-    if (now >= device->ask_at)
-        device_ask(device, link, now);
+    if (device->up)
+        device_turn(device, link, now);
 }
 
 /* The gateway's host. */
 
 struct gateway {
-    uint8_t record[PCP_GATEWAY_RECORD];
+    pcp_gateway_driver driver;
+    bool up;
+    unsigned long up_at;
     const uint8_t *package;
     size_t package_length;
-    uint16_t size;          /* of a fragment */
-    uint16_t first_size;    /* that of the first gateway */
-    unsigned long ask_at;   /* when to ask for the next message */
-    unsigned long heard_at; /* when the last message was handled */
-    unsigned long over_at;  /* when it ended or was seen to stand still */
-    bool over;
-    bool executing;         /* the device has answered the order to install */
-    unsigned long requests; /* that this gateway answered */
-    unsigned long fruitless, failed, started;
+    uint8_t slots[2][PCP_GATEWAY_STATE];
+    uint64_t random;
+    bool ended; /* the driver told the end */
+    unsigned long killed;
+    uint32_t started; /* gateways, as far as told */
+    uint8_t phase;    /* of the last one, likewise */
 };
 
-/* Starts the first gateway, or one that follows another.  With the package's
-   code, for then the device tests the image, and resumes what it has begun. */
-static uint8_t gateway_start(struct gateway *gateway, unsigned long now)
+static uint8_t gateway_start(struct gateway *gateway,
+                             const pcp_driver_config *config, unsigned long now)
 {
-    uint8_t number = pcp_gateway_start(
-        gateway->record, sizeof gateway->record, TARGET, strlen(TARGET),
-        gateway->size, gateway->package, gateway->package_length, 1);
+    uint8_t number = pcp_gateway_driver_start(
+        &gateway->driver, config, TARGET, strlen(TARGET), gateway->package,
+        gateway->package_length, gateway->slots[0], sizeof gateway->slots[0],
+        gateway->slots[1], sizeof gateway->slots[1], now);
 
-    gateway->ask_at = now;
-    gateway->heard_at = now;
-    gateway->over = false;
-    gateway->executing = false;
-    gateway->requests = 0;
-    gateway->started++;
+    gateway->up = number == PCP_HANDLED;
     return number;
 }
 
-static bool gateway_has_ended(const struct gateway *gateway)
+static void gateway_kill(struct gateway *gateway, unsigned long now)
 {
-    return pcp_gateway_phase(gateway->record) == PCP_GATEWAY_ENDED;
+    memset(&gateway->driver, ERASED, sizeof gateway->driver);
+    gateway->up = false;
+    gateway->up_at = now + AWAY;
+    gateway->killed++;
+    printf("tick %lu: the gateway restarts\n", now);
 }
 
-static bool gateway_has_succeeded(const struct gateway *gateway)
-{
-    uint8_t ending = pcp_gateway_ending(gateway->record);
-
-    return gateway_has_ended(gateway) &&
-           (ending == PCP_ENDING_SUCCESS ||
-            ending == PCP_ENDING_ALREADY_RUNNING);
-}
-
-static void gateway_ended(struct gateway *gateway, unsigned long now,
-                          const struct message *message)
+/* For the account: tells of a gateway that ended, or after which another
+   started. */
+static void gateway_tell(struct gateway *gateway, unsigned long now)
 {
     static const char *const meaning[] = {
         "success",           "the version is running already",
         "offer refused",     "download failed",
         "execution refused", "installation failed"};
-    unsigned ending = pcp_gateway_ending(gateway->record);
+    const uint8_t *record = pcp_gateway_driver_record(&gateway->driver);
+    uint32_t started = pcp_gateway_driver_gateways(&gateway->driver);
+    uint8_t phase = pcp_gateway_phase(record);
 
-    gateway->over = true;
-    gateway->over_at = now;
-    printf("tick %lu: gateway %lu ended with %u, %s; the device said %02X\n",
-           now, gateway->started, ending, meaning[ending],
-           (unsigned)message->bytes[8]);
+    if (started > gateway->started && gateway->started > 0 &&
+        gateway->phase != PCP_GATEWAY_ENDED)
+        printf("tick %lu: gateway %lu stood still in %s\n", now,
+               (unsigned long)gateway->started,
+               gateway_phase_name(gateway->phase));
+    if (phase == PCP_GATEWAY_ENDED && gateway->phase != PCP_GATEWAY_ENDED)
+        printf("tick %lu: gateway %lu ended with %u, %s; "
+               "the device said %02X\n",
+               now, (unsigned long)started,
+               (unsigned)pcp_gateway_ending(record),
+               meaning[pcp_gateway_ending(record)],
+               (unsigned)pcp_gateway_driver_said(&gateway->driver));
+    gateway->started = started;
+    gateway->phase = phase;
 }
 
-static void gateway_stands_still(struct gateway *gateway, unsigned long now)
+static void gateway_turn(struct gateway *gateway, struct link *link,
+                         unsigned long now)
 {
-    static const char *const phase[] = {"Ask", "Offer", "Serve", "Run"};
+    for (;;) {
+        pcp_action action;
 
-    gateway->over = true;
-    gateway->over_at = now;
-    printf("tick %lu: gateway %lu stands still in %s\n", now, gateway->started,
-           phase[pcp_gateway_phase(gateway->record)]);
-}
-
-/* Whether the gateway is to get this message.  Before its offer is accepted,
-   and when it is over, it would tell a device that asks for fragments, or has
-   them all, that there is no such upgrade, and the device would drop what it
-   has.  Unanswered, the device asks again, and the next offer resumes.  But
-   that a download failed is answered at the end too, or the device would say it
-   for ever.  A report is answered always: the device is done, and any answer
-   lets it rest. */
-static bool is_wanted(const struct gateway *gateway,
-                      const struct message *message)
-{
-    uint8_t phase = pcp_gateway_phase(gateway->record);
-    bool serves = !gateway->over && (phase == PCP_GATEWAY_SERVE ||
-                                     phase == PCP_GATEWAY_RUN);
-
-    switch (code_of(message)) {
-    case PCP_UPGRADE_RESULT:
-        return true;
-    case PCP_FRAGMENT:
-        return serves;
-    case PCP_DOWNLOAD_RESULT:
-        return serves || pcp_gateway_ending(gateway->record) ==
-                             PCP_ENDING_DOWNLOAD_FAILED;
-    default:
-        return !gateway->over;
+        gateway_tell(gateway, now);
+        action = pcp_gateway_driver_poll(&gateway->driver, now);
+        gateway->ended = action.kind == PCP_ACTION_END;
+        if (gateway->ended || action.kind == PCP_ACTION_WAIT)
+            return;
+        if (once_in(&gateway->random, KILLED)) {
+            gateway_kill(gateway, now);
+            return;
+        }
+        if (action.kind == PCP_ACTION_SAVE)
+            memcpy(gateway->slots[action.slot], action.bytes, action.length);
+        else
+            link_send(link, now, DEVICE, action.bytes, action.length);
     }
-}
-
-static void gateway_handled(struct gateway *gateway, unsigned long now,
-                            const struct message *message, bool replied)
-{
-    gateway->heard_at = now;
-    if (replied)
-        gateway->requests++;
-    if (code_of(message) == PCP_EXECUTE)
-        gateway->executing = true;
-}
-
-/* Before the offer the gateway waits until what the device sent earlier, of its
-   own accord, has arrived: in Serve or Run it would count for this upgrade. */
-static void gateway_changed(struct gateway *gateway, unsigned long now,
-                            const struct message *message)
-{
-    bool offers = pcp_gateway_phase(gateway->record) == PCP_GATEWAY_OFFER;
-
-    gateway->ask_at = offers ? now + QUIET : now;
-    if (gateway_has_ended(gateway))
-        gateway_ended(gateway, now, message);
 }
 
 static void gateway_receive(struct gateway *gateway, struct link *link,
                             unsigned long now, const struct message *message)
 {
-    uint8_t reply[PCP_GATEWAY_REPLY];
-    pcp_answer answer;
-
-    if (!is_wanted(gateway, message))
+    if (!gateway->up)
         return;
-    answer = pcp_gateway_receive(gateway->record, sizeof gateway->record, 1, 1,
-                                 message->bytes, message->length,
-                                 gateway->package, gateway->package_length,
-                                 reply, sizeof reply);
-    note_number("pcp_gateway_receive", answer.number);
-    if (answer.number != PCP_HANDLED)
-        return;
-    link_send(link, now, DEVICE, reply, answer.length);
-    gateway_handled(gateway, now, message, answer.length > 0);
-    if (answer.changed)
-        gateway_changed(gateway, now, message);
+    pcp_gateway_driver_receive(&gateway->driver, now, message->bytes,
+                               message->length);
+    gateway_turn(gateway, link, now);
 }
 
-static void gateway_ask(struct gateway *gateway, struct link *link,
-                        unsigned long now)
+static void gateway_tick(struct gateway *gateway, struct link *link,
+                         const pcp_driver_config *config, unsigned long now)
 {
-    uint8_t reply[PCP_GATEWAY_REPLY];
-    pcp_answer answer = pcp_gateway_next_message(
-        gateway->record, sizeof gateway->record, gateway->package,
-        gateway->package_length, reply, sizeof reply);
-
-    note_number("pcp_gateway_next_message", answer.number);
-    link_send(link, now, DEVICE, reply, answer.length);
-    gateway->ask_at = now + RETRY;
-}
-
-/* Smaller if that is still a size, else larger. */
-static uint16_t other_size(uint16_t size)
-{
-    return size >= PCP_SIZE_MIN + SMALLER ? size - SMALLER : size + SMALLER;
-}
-
-/* The next gateway, on the same package.  One that stood still in Serve, and
-   was asked for nothing, may have met a device that holds the whole package and
-   has told it to an earlier gateway.  Another fragment size makes an offer that
-   is no resume: the device fetches the package again, and tests it again, which
-   it would not if the offer had no code.  A download that failed is fetched
-   again too, but not for ever: what failed twice was not damaged on the way.
-   False: no use in going on. */
-static bool gateway_next(struct gateway *gateway, unsigned long now)
-{
-    bool in_serve = pcp_gateway_phase(gateway->record) == PCP_GATEWAY_SERVE;
-
-    if (pcp_gateway_ending(gateway->record) == PCP_ENDING_DOWNLOAD_FAILED &&
-        ++gateway->failed == MOST_FAILED)
-        return false;
-    if (gateway->requests > 0)
-        gateway->fruitless = 0;
-    else if (++gateway->fruitless == MOST_FRUITLESS)
-        return false;
-    if (in_serve && gateway->requests == 0)
-        gateway->size = gateway->size == gateway->first_size
-                            ? other_size(gateway->first_size)
-                            : gateway->first_size;
-    return gateway_start(gateway, now) == PCP_HANDLED;
-}
-
-/* A gateway is over when it has ended, or stands still.  If that was no
-   success, the next one starts, but not before all that was sent has arrived or
-   is lost.  When the order to install has been answered, it is not given again:
-   a device that has finished meanwhile would refuse it.  False: no use in going
-   on. */
-static bool gateway_tick(struct gateway *gateway, struct link *link,
-                         unsigned long now)
-{
-    if (gateway_has_succeeded(gateway))
-        return true;
-    if (gateway->over)
-        return now < gateway->over_at + QUIET || gateway_next(gateway, now);
-    if (now >= gateway->heard_at + STANDSTILL)
-        gateway_stands_still(gateway, now);
-    else if (now >= gateway->ask_at && !gateway->executing)
-        gateway_ask(gateway, link, now);
-    return true;
+    if (!gateway->up && now >= gateway->up_at)
+        gateway_start(gateway, config, now);
+    if (gateway->up)
+        gateway_turn(gateway, link, now);
 }
 
 /* The program. */
+
+/* What the program is called with. */
+struct call {
+    const char *capture;   /* NULL if there is none */
+    const uint8_t *digest; /* likewise */
+    const char *package;
+    uint64_t seed, size;
+};
 
 static void deliver(struct device *device, struct gateway *gateway,
                     struct link *link, unsigned long now)
@@ -579,47 +470,54 @@ static void deliver(struct device *device, struct gateway *gateway,
             gateway_receive(gateway, link, now, &message);
 }
 
-/* Runs both hosts until the upgrade has succeeded and the device is at rest;
-   false if that does not come about. */
-static bool upgrade(struct device *device, struct gateway *gateway,
-                    struct link *link)
+/* Runs both hosts until the upgrade is over, and the device at rest; how it
+   ended. */
+static uint8_t upgrade(struct device *device, struct gateway *gateway,
+                       struct link *link, const pcp_driver_config *config)
 {
     for (unsigned long now = 0; now < MOST_TICKS; now++) {
+        uint8_t outcome;
+
         link_tick(link, now);
         deliver(device, gateway, link, now);
-        device_tick(device, link, now);
-        if (!gateway_tick(gateway, link, now))
-            return false;
-        if (gateway_has_succeeded(gateway) &&
-            pcp_device_phase(device->record) == PCP_DEVICE_IDLE)
-            return true;
+        device_tick(device, link, config, now);
+        gateway_tick(gateway, link, config, now);
+        if (!gateway->up || !gateway->ended || !device->up)
+            continue;
+        outcome = pcp_gateway_driver_outcome(&gateway->driver);
+        if (outcome != PCP_OUTCOME_SUCCESS ||
+            pcp_device_phase(pcp_device_driver_record(&device->driver)) ==
+                PCP_DEVICE_IDLE)
+            return outcome;
     }
-    return false;
+    return PCP_OUTCOME_TIME;
 }
 
 static bool image_is_package(const struct device *device,
                              const struct gateway *gateway)
 {
-    return pcp_device_image_length(device->record) == gateway->package_length &&
-           memcmp(device->image, gateway->package, gateway->package_length) ==
+    return device->installed == gateway->package_length &&
+           memcmp(device->flash, gateway->package, gateway->package_length) ==
                0;
 }
 
 /* The account, and the program's exit status. */
-static int report(const struct device *device, const struct gateway *gateway,
-                  const struct link *link, bool succeeded)
+static int report(const struct call *call, const struct device *device,
+                  const struct gateway *gateway, const struct link *link,
+                  uint8_t outcome)
 {
     printf("messages: %lu sent, %lu lost, %lu repeated\n", link->sent,
            link->lost, link->repeated);
     printf("fragments: %lu stored, %lu came again\n", device->stored,
            device->repeated);
-    printf("resumes: %lu, gateways: %lu\n", device->resumes, gateway->started);
-    if (device->digest != NULL)
-        printf("digests: %lu given, %lu failed\n", device->digests,
-               device->other_digests);
-    if (!succeeded)
-        puts("gave up: the device was not upgraded");
-    else if (!is_target(pcp_device_running(device->record)))
+    printf("restarts: %lu of the device, %lu of the gateway; gateways: %lu\n",
+           device->killed, gateway->killed, (unsigned long)gateway->started);
+    if (call->digest != NULL)
+        printf("digest: %lu images tested by it, %lu failed\n", device->tested,
+               device->failed);
+    if (outcome != PCP_OUTCOME_SUCCESS)
+        printf("gave up: %s\n", pcp_outcome_reason(outcome));
+    else if (strcmp(device->version, TARGET) != 0)
         puts("the device does not run " TARGET);
     else if (!image_is_package(device, gateway))
         puts("upgraded to " TARGET ", but the image is not the package");
@@ -631,69 +529,65 @@ static int report(const struct device *device, const struct gateway *gateway,
     return EXIT_FAILURE;
 }
 
-/* What the program is called with. */
-struct call {
-    const char *capture;   /* NULL if there is none */
-    const uint8_t *digest; /* likewise */
-    const char *package;
-    uint64_t seed, size;
-};
-
 static int run(const struct call *call, const uint8_t *package,
                size_t package_length, FILE *capture)
 {
     static struct device device; /* too large for a stack */
-    struct gateway gateway = {.package = package,
-                              .package_length = package_length,
-                              .size = (uint16_t)call->size,
-                              .first_size = (uint16_t)call->size};
+    static struct gateway gateway;
     struct link link = {.random = call->seed};
-    uint8_t number = gateway_start(&gateway, 0);
+    pcp_driver_config config = settings((uint16_t)call->size, call->digest);
+    uint8_t number;
 
+    gateway.package = package;
+    gateway.package_length = package_length;
+    gateway.random = call->seed + 1;
+    number = gateway_start(&gateway, &config, 0);
     if (number != PCP_HANDLED) {
-        fprintf(stderr, "upgrade: package refused with %u%s\n",
-                (unsigned)number,
-                number == PCP_BAD_PACKAGE
-                    ? ": it is empty, or longer than 65,535 fragments"
-                : number == PCP_BAD_SIZE ? ": no fragment size"
-                                         : "");
+        fprintf(stderr, "upgrade: refused with %u, %s\n",
+                (unsigned)number, pcp_reason(number));
         return EXIT_FAILURE;
     }
-    device_start(&device, ~call->seed, capture, call->digest);
-    return report(&device, &gateway, &link,
-                  upgrade(&device, &gateway, &link));
+    memset(device.flash, ERASED, sizeof device.flash);
+    memset(device.slots, ERASED, sizeof device.slots);
+    device.version = RUNNING;
+    device.random = ~call->seed;
+    device.capture = capture;
+    device_start(&device, &config, 0);
+    return report(call, &device, &gateway, &link,
+                  upgrade(&device, &gateway, &link, &config));
 }
 
-/* Reads no more than shows that a package is too long. */
-static bool read_package(const char *path, uint8_t *package, size_t most,
-                         size_t *length)
+/* The arguments. */
+
+bool read_file(const char *path, uint8_t *bytes, size_t most, size_t *length)
 {
     FILE *file = fopen(path, "rb");
-    bool good = file != NULL;
+    bool good;
 
-    if (good) {
-        *length = fread(package, 1, most, file);
-        good = !ferror(file);
-    }
-    if (!good)
-        fprintf(stderr, "upgrade: cannot read %s: %s\n", path, strerror(errno));
-    if (file != NULL)
-        fclose(file);
+    if (file == NULL)
+        return false;
+    *length = fread(bytes, 1, most, file);
+    good = !ferror(file);
+    fclose(file);
     return good;
 }
 
 /* Digits alone, for strtoull also takes signs and blanks. */
-static bool read_number(const char *text, uint64_t most, uint64_t *number)
+const char *read_number(const char *text, char end, uint64_t most,
+                        uint64_t *number)
 {
-    if (*text == 0 || strspn(text, "0123456789") != strlen(text))
-        return false;
+    size_t length = strspn(text, "0123456789");
+
+    if (length == 0 || text[length] != end)
+        return NULL;
     errno = 0;
     *number = strtoull(text, NULL, 10);
-    return errno == 0 && *number <= most;
+    if (errno != 0 || *number > most)
+        return NULL;
+    return text + length + (end != 0);
 }
 
-/* Two hex digits for each byte, as md5sum prints them, or capital ones. */
-static bool read_digest(const char *text, uint8_t *digest)
+bool read_digest(const char *text, uint8_t *digest)
 {
     if (strlen(text) != 2 * PCP_DIGEST_LENGTH ||
         strspn(text, "0123456789abcdefABCDEF") != strlen(text))
@@ -733,8 +627,10 @@ static bool read_call(int count, char **arguments, struct call *call)
     if (!read_options(&count, &arguments, call) || count < 2 || count > 4)
         return false;
     call->package = arguments[1];
-    return (count < 3 || read_number(arguments[2], UINT64_MAX, &call->seed)) &&
-           (count < 4 || read_number(arguments[3], UINT16_MAX, &call->size));
+    return (count < 3 ||
+            read_number(arguments[2], 0, UINT64_MAX, &call->seed) != NULL) &&
+           (count < 4 ||
+            read_number(arguments[3], 0, UINT16_MAX, &call->size) != NULL);
 }
 
 /* Runs, and sees that the capture was written, if there is one. */
@@ -758,19 +654,48 @@ static int run_captured(const struct call *call, const uint8_t *package,
     return status;
 }
 
-int main(int count, char **arguments)
+/* Reads no more of a package than shows that it is too long. */
+static int run_simulated(int count, char **arguments)
 {
     static uint8_t package[MOST_PACKAGE + 1];
-    size_t length = 0;
+    size_t length;
     struct call call = {.seed = 1, .size = PCP_SIZE_PUBLIC};
 
-    if (!read_call(count, arguments, &call)) {
-        fputs("usage: upgrade [--capture FILE] [--digest HEX] PACKAGE"
-              " [SEED [SIZE]]\n",
-              stderr);
-        return 2;
-    }
-    if (!read_package(call.package, package, sizeof package, &length))
+    if (!read_call(count, arguments, &call))
+        return WRONG_USE;
+    if (!read_file(call.package, package, sizeof package, &length)) {
+        fprintf(stderr, "upgrade: cannot read %s: %s\n", call.package,
+                strerror(errno));
         return EXIT_FAILURE;
+    }
     return run_captured(&call, package, length);
+}
+
+static void tell_use(FILE *to)
+{
+    fputs("usage: upgrade [--capture FILE] [--digest HEX] PACKAGE"
+          " [SEED [SIZE]]\n"
+          "       upgrade --udp device [OPTION VALUE].. FOLDER\n"
+          "       upgrade --udp gateway [OPTION VALUE].. FOLDER VERSION"
+          " PACKAGE\n"
+          "options with --udp: --ports DEVICE:GATEWAY, --lose PERCENT,\n"
+          "    --capture FILE, --digest VERSION:HEX, --size SIZE\n",
+          to);
+}
+
+int main(int count, char **arguments)
+{
+    int status;
+
+    if (count == 2 && strcmp(arguments[1], "--help") == 0) {
+        tell_use(stdout);
+        return EXIT_SUCCESS;
+    }
+    if (count > 1 && strcmp(arguments[1], "--udp") == 0)
+        status = run_over_udp(count - 2, arguments + 2);
+    else
+        status = run_simulated(count, arguments);
+    if (status == WRONG_USE)
+        tell_use(stderr);
+    return status;
 }

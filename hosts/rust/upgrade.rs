@@ -1,27 +1,34 @@
-//! `upgrade [--capture FILE] [--digest HEX] PACKAGE [SEED [SIZE]]` upgrades a simulated device from a package file, over a
-//! simulated link that loses, repeats, delays and reorders messages, and is down at times. The seed, a number, fixes what
-//! goes wrong. The size is that of a fragment: as in public platforms' packages, if none is given. With a file, the
-//! exchange is recorded there as a capture: what arrives at the device, and what it sends. With a digest, the package's MD5
-//! in 32 hex digits as md5sum prints it, the device tests the image by that too.
+//! `upgrade [--capture FILE] [--digest HEX] PACKAGE [SEED [SIZE]]`,
+//! `upgrade --udp device [OPTION VALUE].. FOLDER`,
+//! `upgrade --udp gateway [OPTION VALUE].. FOLDER VERSION PACKAGE`
 //!
-//! This is an example of both hosts of the crate `pcp`. Device and gateway know of each other only what the link
+//! Upgrades a simulated device from a package file, over a simulated link that loses, repeats, delays and reorders
+//! messages, and is down at times. Either end's process is killed at times, between any two things that it does, and
+//! started again from what it had saved. The seed, a number, fixes what goes wrong. The size is that of a fragment: as in
+//! public platforms' packages, if none is given. With a file, the exchange is recorded there as a capture: what arrives at
+//! the device, and what it sends. With a digest, the package's MD5 in 32 hex digits as md5sum prints it, the device tests
+//! the image by that too. With `--udp` it is one end alone, over UDP: the module `udp`.
+//!
+//! This is an example of both hosts over the crate's drivers. Device and gateway know of each other only what the link
 //! brings. What a host has to do, and can be copied:
 //!
-//! - `receive`: lend the buffers, send the reply, and ask at once if the record has changed
-//! - `ask`: send what the end has to send; by a timer, for a message may have been lost
-//! - `DeviceHost::give_digest`: gives the package's MD5 when its download has begun
-//! - `DeviceHost::install`, `tick`: the installer, begun once and only with what the image holds, and its end reported
-//! - `GatewayHost::wants`, `tick`, `next`: which messages the gateway leaves unanswered, and when a new gateway takes
-//!   over
+//! - `start`: start the driver, with what the slots hold
+//! - `turn`: do what the driver tells, until it waits
+//! - `receive`: hand in what arrived
 //!
-//! hosts/c/upgrade.c is the same program in C, and prints the same.
+//! The rest is the simulation, and the account of it. hosts/c/upgrade.c is the same program in C, and prints the same.
+
+mod udp;
 
 use pcp::capture::{self, Direction};
-use pcp::{Code, Condition, Device, DevicePhase, Ending, Facts, Gateway, GatewayPhase, InstallCode, Refusal};
-use pcp::{DeviceAnswer, DEVICE_REPLY, DIGEST_LENGTH, GATEWAY_REPLY, SIZE_MAX, SIZE_MIN, SIZE_PUBLIC};
+use pcp::driver::{device_state, Config, DeviceAction, DeviceDriver, PackageDigest};
+use pcp::driver::{GatewayAction, GatewayDriver, Outcome, GATEWAY_STATE};
+use pcp::{Condition, Device, DevicePhase, GatewayPhase, InstallCode, Refusal, Version};
+use pcp::{DIGEST_LENGTH, SIZE_MAX, SIZE_PUBLIC};
 use std::fmt::Arguments;
-use std::fs::File;
+use std::fs::{File, OpenOptions};
 use std::io::{self, Read, Write};
+use std::path::{Path, PathBuf};
 use std::process::ExitCode;
 use std::str::FromStr;
 use std::{env, fmt};
@@ -30,52 +37,73 @@ use std::{env, fmt};
 const RUNNING: &str = "V1.0";
 const TARGET: &str = "V2.0";
 
-/// How much the other fragment size is smaller, see `GatewayHost::next`.
-const SMALLER: u16 = 16;
 const MOST_PACKAGE: u64 = SIZE_MAX as u64 * 65_535;
-/// The device's flash for a package.
+/// None of PCP is longer than `GATEWAY_REPLY`.
+const MOST_MESSAGE: usize = 2_048;
+/// The device's storage for a package.
 const IMAGE_LENGTH: usize = 1 << 20;
-/// Enough for the smallest fragments.
-const MAP_LENGTH: usize = IMAGE_LENGTH / 32 / 8;
+const STATE_LENGTH: usize = device_state(IMAGE_LENGTH);
 /// A byte of erased flash.
 const ERASED: u8 = 0xFF;
 
 /// Time passes in ticks.
 type Ticks = u64;
 
+type Digest = [u8; DIGEST_LENGTH];
+
 /// The longest delay of a message on the link.
 const LONGEST_DELAY: Ticks = 8;
-/// After this time a message and its reply have arrived.
-const QUIET: Ticks = 2 * LONGEST_DELAY + 1;
-/// Without an answer: send again.
-const RETRY: Ticks = 20;
 /// What the installer takes.
 const INSTALLATION: Ticks = 40;
-/// Without a message: start anew. Must be longer than an installation.
-const STANDSTILL: Ticks = 200;
 /// How long the link is down.
 const OUTAGE: Ticks = 300;
+/// How long a process is away that was killed.
+const AWAY: Ticks = 25;
 /// Then the program gives up.
 const MOST_TICKS: Ticks = 2_000_000;
 
-/// How often things go wrong: once in so many times.
+/// How often things go wrong: once in so many times. A process is killed before something that it is to do.
 const LOST: u64 = 6;
 const REPEATED: u64 = 10;
 const DOWN: u64 = 1_500;
 const BUSY: u64 = 8;
+const KILLED: u64 = 500;
 
 /// Messages that the link can hold.
 const IN_FLIGHT: usize = 64;
-/// Gateways in a row that were asked for nothing, and downloads that failed; then the program gives up.
-const MOST_FRUITLESS: u32 = 10;
-const MOST_FAILED: u32 = 2;
+
+/// The times and limits of both ends. A digest is the package's, and so belongs to the version that this brings; the
+/// driver gives it to the device.
+fn settings(size: u16, digest: Option<Digest>) -> Result<Config, Failure> {
+    let version =
+        Version::new(TARGET.as_bytes()).map_err(|refusal| Failure::Call("Version::new", refusal))?;
+    Ok(Config {
+        retry: 20,
+        quiet: 2 * LONGEST_DELAY + 1, // a message and its reply have come
+        installation: 200,
+        later: 50,
+        linger: 200,
+        time_limit: MOST_TICKS,
+        size,
+        digest: digest.map(|digest| PackageDigest { version, digest }),
+        ..Config::default()
+    })
+}
+
+const USAGE: &str = "usage: upgrade [--capture FILE] [--digest HEX] PACKAGE [SEED [SIZE]]
+       upgrade --udp device [OPTION VALUE].. FOLDER
+       upgrade --udp gateway [OPTION VALUE].. FOLDER VERSION PACKAGE
+options with --udp: --ports DEVICE:GATEWAY, --lose PERCENT,
+    --capture FILE, --digest VERSION:HEX, --size SIZE";
 
 /// Why the program does not go on.
 enum Failure {
     Usage,
-    Read(String, io::Error),
-    Write(String, io::Error),
-    Package(Refusal),
+    Read(PathBuf, io::Error),
+    Write(PathBuf, io::Error),
+    Port(u16, io::Error),
+    /// Of the version, the size, the package, or what is lent.
+    Start(Refusal),
     /// This program lends or states something wrong.
     Call(&'static str, Refusal),
 }
@@ -83,13 +111,12 @@ enum Failure {
 impl fmt::Display for Failure {
     fn fmt(&self, f: &mut fmt::Formatter) -> fmt::Result {
         match self {
-            Failure::Usage => {
-                write!(f, "usage: upgrade [--capture FILE] [--digest HEX] PACKAGE [SEED [SIZE]]")
-            }
-            Failure::Read(path, error) => write!(f, "upgrade: cannot read {}: {}", path, error),
-            Failure::Write(path, error) => write!(f, "upgrade: cannot write {}: {}", path, error),
-            Failure::Package(refusal) => {
-                write!(f, "upgrade: package refused with {}, {}", u8::from(*refusal), refusal)
+            Failure::Usage => f.write_str(USAGE),
+            Failure::Read(path, error) => write!(f, "upgrade: cannot read {}: {}", path.display(), error),
+            Failure::Write(path, error) => write!(f, "upgrade: cannot write {}: {}", path.display(), error),
+            Failure::Port(port, error) => write!(f, "upgrade: port {}: {}", port, error),
+            Failure::Start(refusal) => {
+                write!(f, "upgrade: refused with {}, {}", u8::from(*refusal), refusal)
             }
             Failure::Call(call, refusal) => {
                 write!(f, "upgrade: {} refused with {}, {}", call, u8::from(*refusal), refusal)
@@ -181,83 +208,126 @@ impl Link {
     }
 }
 
-/// Bytes from the air can be of no use, which is no concern. But if this program lends or states something wrong, going
-/// on would not mend it.
-fn expected<T>(call: &'static str, answer: Result<T, Refusal>) -> Result<Option<T>, Failure> {
-    match answer {
-        Err(refusal) if refusal.is_hosts_fault() => Err(Failure::Call(call, refusal)),
-        answer => Ok(answer.ok()),
-    }
-}
-
-/// The first byte of a message's data: most answers are nothing else.
-fn result_of(message: &[u8]) -> Option<u8> {
-    message.get(8).copied()
-}
-
-/// Records an exchange as a capture, message by message.
+/// Records an exchange as a capture, message by message: each at once, so that none is cut when the process is killed.
 struct Recorder {
-    path: String,
+    path: PathBuf,
     file: File,
 }
 
 impl Recorder {
-    fn new(path: &str) -> Result<Recorder, Failure> {
-        match File::create(path) {
-            Ok(file) => Ok(Recorder { path: path.to_string(), file }),
-            Err(error) => Err(Failure::Write(path.to_string(), error)),
+    /// Writes to a file that is opened so.
+    fn new(path: &Path, options: &OpenOptions) -> Result<Recorder, Failure> {
+        match options.open(path) {
+            Ok(file) => Ok(Recorder { path: path.to_path_buf(), file }),
+            Err(error) => Err(Failure::Write(path.to_path_buf(), error)),
         }
     }
 
     fn record(&mut self, direction: Direction, message: &[u8]) -> Result<(), Failure> {
-        let mut record = [0; capture::HEADER + GATEWAY_REPLY];
+        let mut record = [0; capture::HEADER + MOST_MESSAGE];
         let end = capture::write(direction, message, &mut record, 0)
             .map_err(|refusal| Failure::Call("capture::write", refusal))?;
         self.file.write_all(&record[..end]).map_err(|error| Failure::Write(self.path.clone(), error))
     }
 }
 
-type Digest = [u8; DIGEST_LENGTH];
-
-struct DeviceHost {
-    device: Device,
-    image: Vec<u8>,
-    map: Vec<u8>,
-    random: Random,
-    recorder: Option<Recorder>,
-    /// The package's, if it is known.
-    digest: Option<Digest>,
-    /// When to ask for the next message.
-    ask_at: Ticks,
-    /// When the installer will be done, if it is at work.
-    installed_at: Option<Ticks>,
-    resumes: u64,
-    stored: u64,
-    repeated: u64,
-    digests: u64,
-    other_digests: u64,
+/// There may be no capture.
+fn record(recorder: &mut Option<Recorder>, direction: Direction, message: &[u8]) -> Result<(), Failure> {
+    match recorder {
+        Some(recorder) => recorder.record(direction, message),
+        None => Ok(()),
+    }
 }
 
-impl DeviceHost {
-    /// The map is not cleared: an announcement does it.
-    fn new(seed: u64, recorder: Option<Recorder>, digest: Option<Digest>) -> Result<DeviceHost, Failure> {
-        let device =
-            Device::new(RUNNING.as_bytes()).map_err(|refusal| Failure::Call("Device::new", refusal))?;
-        Ok(DeviceHost {
-            device,
-            image: vec![ERASED; IMAGE_LENGTH],
-            map: vec![ERASED; MAP_LENGTH],
+struct DeviceHost<'a> {
+    config: &'a Config,
+    /// None where the process does not run; then it starts at the time behind.
+    driver: Option<DeviceDriver<Vec<u8>, Vec<u8>>>,
+    up_at: Ticks,
+    /// The one that runs.
+    version: &'static str,
+    flash: Vec<u8>,
+    slots: [Vec<u8>; 2],
+    /// When the installer will be done, if it is at work.
+    installed_at: Option<Ticks>,
+    /// Bytes of what was installed.
+    installed: usize,
+    random: Random,
+    recorder: Option<Recorder>,
+    stored: u64,
+    repeated: u64,
+    killed: u64,
+    tested: u64,
+    failed: u64,
+}
+
+impl<'a> DeviceHost<'a> {
+    fn new(config: &'a Config, seed: u64, recorder: Option<Recorder>) -> DeviceHost<'a> {
+        DeviceHost {
+            config,
+            driver: None,
+            up_at: 0,
+            version: RUNNING,
+            flash: vec![ERASED; IMAGE_LENGTH],
+            slots: [vec![ERASED; STATE_LENGTH], vec![ERASED; STATE_LENGTH]],
+            installed_at: None,
+            installed: 0,
             random: Random(seed),
             recorder,
-            digest,
-            ask_at: 0,
-            installed_at: None,
-            resumes: 0,
             stored: 0,
             repeated: 0,
-            digests: 0,
-            other_digests: 0,
-        })
+            killed: 0,
+            tested: 0,
+            failed: 0,
+        }
+    }
+
+    fn start(&mut self, now: Ticks) -> Result<(), Failure> {
+        let (image, state) = (self.flash.clone(), vec![ERASED; STATE_LENGTH]);
+        let slots = [&self.slots[0][..], &self.slots[1][..]];
+        let driver = DeviceDriver::start(self.config, self.version.as_bytes(), image, state, slots, now);
+        self.driver = Some(driver.map_err(|refusal| Failure::Call("DeviceDriver::start", refusal))?);
+        Ok(())
+    }
+
+    /// What was in memory is gone, and an installation cut off.
+    fn kill(&mut self, now: Ticks) {
+        self.driver = None;
+        self.up_at = now + AWAY;
+        self.installed_at = None;
+        self.killed += 1;
+        tell(format_args!("tick {}: the device restarts", now));
+    }
+
+    fn turn(&mut self, link: &mut Link, now: Ticks) -> Result<(), Failure> {
+        while let Some(driver) = &mut self.driver {
+            let action = driver.poll(now);
+            if let DeviceAction::Wait(_) = action {
+                break;
+            }
+            if self.random.once_in(KILLED) {
+                self.kill(now);
+                break;
+            }
+            match action {
+                DeviceAction::Write { at, bytes } => {
+                    self.flash[at..at + bytes.len()].copy_from_slice(bytes);
+                    self.stored += 1;
+                }
+                DeviceAction::Save { slot, bytes } => self.slots[slot][..bytes.len()].copy_from_slice(bytes),
+                DeviceAction::Send(bytes) => {
+                    record(&mut self.recorder, Direction::FromDevice, bytes)?;
+                    link.send(now, End::Gateway, bytes);
+                }
+                // A real installer copies the package to where it runs.
+                DeviceAction::Install(package) => {
+                    self.installed = package.len();
+                    self.installed_at = Some(now + INSTALLATION);
+                }
+                DeviceAction::Wait(_) => {}
+            }
+        }
+        Ok(())
     }
 
     /// A device would look at its battery, its signal and its own work.
@@ -269,351 +339,214 @@ impl DeviceHost {
         }
     }
 
-    /// A device that is to go on after a restart would save record, image and map before it sends the reply. Only a
-    /// changed record is a reason to ask at once: a host that asked after every arrival would double all that follows a
-    /// repeated message.
     fn receive(&mut self, link: &mut Link, now: Ticks, message: &[u8]) -> Result<(), Failure> {
-        self.record(Direction::ToDevice, message)?;
-        let condition = self.condition();
-        let mut reply = [0; DEVICE_REPLY];
-        let (image, map) = (&mut self.image, &mut self.map);
-        let answer = self.device.receive(Facts::BOTH, condition, message, image, map, &mut reply);
-        self.repeated += u64::from(answer == Err(Refusal::AlreadyStored));
-        // The one refusal that changes the record: to Failed, which is told when the device is asked.
-        if answer == Err(Refusal::RepeatDiffers) {
-            self.ask_at = now;
-        }
-        let answer = match expected("Device::receive", answer)? {
-            Some(answer) => answer,
-            None => return Ok(()),
-        };
-        self.count(message, &answer);
-        if Code::of(message) == Some(Code::Announce) && answer.changed {
-            self.give_digest()?;
-        }
-        if answer.written.is_some() && self.device.phase() == DevicePhase::Failed {
-            self.failed(now);
-        }
-        if let Some(reply) = answer.reply {
-            self.send(link, now, reply)?;
-        }
-        if answer.changed {
-            self.ask_at = now;
-        }
-        if self.device.phase() == DevicePhase::Installing {
-            self.install(now)?;
-        }
-        Ok(())
-    }
-
-    fn record(&mut self, direction: Direction, message: &[u8]) -> Result<(), Failure> {
-        match &mut self.recorder {
-            Some(recorder) => recorder.record(direction, message),
-            None => Ok(()),
-        }
-    }
-
-    fn send(&mut self, link: &mut Link, now: Ticks, message: &[u8]) -> Result<(), Failure> {
-        self.record(Direction::FromDevice, message)?;
-        link.send(now, End::Gateway, message);
-        Ok(())
-    }
-
-    /// For the account. An offer that was accepted and changed nothing is a resume.
-    fn count(&mut self, message: &[u8], answer: &DeviceAnswer) {
-        let accepted = answer.reply.and_then(result_of) == Some(0x00);
-        let resumed = Code::of(message) == Some(Code::Announce) && accepted && !answer.changed;
-        self.stored += u64::from(answer.written.is_some());
-        self.resumes += u64::from(resumed);
-    }
-
-    /// The package's MD5, which a platform states with the package. It is given when an announcement has begun a
-    /// download, and only if that is of the version which it belongs to: the call itself names none. A resume keeps it,
-    /// so it is not given again. A device that saves does so after this, and before its reply to the announcement is
-    /// sent.
-    fn give_digest(&mut self) -> Result<(), Failure> {
-        let digest = match self.digest {
-            Some(digest) if self.device.target().as_str() == TARGET => digest,
-            _ => return Ok(()),
-        };
-        let given = expected("Device::give_digest", self.device.give_digest(&digest))?;
-        self.digests += u64::from(given.is_some());
-        Ok(())
-    }
-
-    /// For the account: all is stored, and did not pass.
-    fn failed(&mut self, now: Ticks) {
-        let check = pcp::check_of_bytes(&self.image[..self.device.image_length()]);
-        let by_digest = self.device.check_code().map_or(true, |code| code == check);
-        self.other_digests += u64::from(by_digest);
-        let why = if by_digest { "MD5 is not the one given" } else { "check is not the one announced" };
-        tell(format_args!("tick {}: all is stored, and the image's {}", now, why));
-    }
-
-    /// Asking changes nothing, so it is done again until an answer has come.
-    fn ask(&mut self, link: &mut Link, now: Ticks) -> Result<(), Failure> {
-        let mut reply = [0; DEVICE_REPLY];
-        let answer = self.device.next_message(&self.image, &self.map, &mut reply);
-        if let Some(message) = expected("Device::next_message", answer)?.flatten() {
-            self.send(link, now, message)?;
-        }
-        self.ask_at = now + RETRY;
-        Ok(())
-    }
-
-    /// Begun once, whatever arrives meanwhile. A real installer copies what `to_install` gives to where it runs. That
-    /// there is nothing can only be where somebody else wrote the record.
-    fn install(&mut self, now: Ticks) -> Result<(), Failure> {
-        if self.installed_at.is_some() {
+        if self.driver.is_none() {
             return Ok(());
         }
-        if self.device.to_install(&self.image).is_none() {
-            return Err(Failure::Call("Device::to_install", Refusal::BadRecord));
+        record(&mut self.recorder, Direction::ToDevice, message)?;
+        let condition = self.condition();
+        if let Some(driver) = &mut self.driver {
+            let before = driver.device().phase();
+            let number = driver.receive(now, condition, message);
+            self.repeated += u64::from(number == Err(Refusal::AlreadyStored));
+            if before == DevicePhase::Loading && has_all(driver.device()) {
+                let by_digest = tested(driver.device(), driver.image(), now);
+                self.tested += u64::from(driver.device().expected_digest().is_some());
+                self.failed += u64::from(by_digest);
+            }
         }
-        self.installed_at = Some(now + INSTALLATION);
-        Ok(())
+        self.turn(link, now)
     }
 
-    fn installed(&mut self, now: Ticks) -> Result<(), Failure> {
+    /// Half of the installers restart the device: the driver hears of it by the version that runs then.
+    fn installed(&mut self, now: Ticks) {
         self.installed_at = None;
-        expected("Device::install_finished", self.device.install_finished(InstallCode::Installed))?;
-        self.ask_at = now; // the report
-        Ok(())
+        self.version = TARGET;
+        if self.random.once_in(2) {
+            self.kill(now);
+        } else if let Some(driver) = &mut self.driver {
+            driver.installed(InstallCode::Installed);
+        }
     }
 
     fn tick(&mut self, link: &mut Link, now: Ticks) -> Result<(), Failure> {
+        if self.driver.is_none() && now >= self.up_at {
+            self.start(now)?;
+        }
         if self.installed_at.map_or(false, |done| now >= done) {
-            self.installed(now)?;
+            self.installed(now);
         }
-        if now >= self.ask_at {
-            self.ask(link, now)?;
-        }
-        Ok(())
+        self.turn(link, now)
     }
 
-    fn runs_target(&self) -> bool {
-        self.device.running().as_str() == TARGET
+    fn is_at_rest(&self) -> bool {
+        self.driver.as_ref().map(|driver| driver.device().phase()) == Some(DevicePhase::Idle)
     }
 
     fn image_is(&self, package: &[u8]) -> bool {
-        self.device.image_length() == package.len() && self.image.starts_with(package)
+        self.installed == package.len() && self.flash.starts_with(package)
     }
 }
 
 struct GatewayHost<'a> {
-    gateway: Gateway,
+    config: &'a Config,
+    driver: Option<GatewayDriver<&'a [u8]>>,
+    up_at: Ticks,
     package: &'a [u8],
-    /// Of a fragment.
-    size: u16,
-    /// That of the first gateway.
-    first_size: u16,
-    /// When to ask for the next message.
-    ask_at: Ticks,
-    /// When the last message was handled.
-    heard_at: Ticks,
-    /// When the gateway ended or was seen to stand still.
-    over_at: Option<Ticks>,
-    /// The device has answered the order to install.
-    executing: bool,
-    /// Requests that this gateway answered.
-    requests: u64,
-    fruitless: u32,
-    failed: u32,
-    started: u64,
-}
-
-/// With the package's code, for then the device tests the image, and resumes what it has begun.
-fn start(size: u16, package: &[u8]) -> Result<Gateway, Failure> {
-    Gateway::start(TARGET.as_bytes(), size, package, true).map_err(Failure::Package)
-}
-
-/// Smaller if that is still a size, else larger.
-fn other_size(size: u16) -> u16 {
-    if size >= SIZE_MIN + SMALLER {
-        size - SMALLER
-    } else {
-        size + SMALLER
-    }
+    slots: [Vec<u8>; 2],
+    random: Random,
+    /// How the upgrade ended, once the driver told the end.
+    ended: Option<Outcome>,
+    killed: u64,
+    /// Gateways, as far as told, and the last one's phase.
+    started: u32,
+    phase: GatewayPhase,
 }
 
 impl<'a> GatewayHost<'a> {
-    fn new(package: &'a [u8], size: u16) -> Result<GatewayHost<'a>, Failure> {
-        Ok(GatewayHost {
-            gateway: start(size, package)?,
+    fn new(config: &'a Config, seed: u64, package: &'a [u8]) -> GatewayHost<'a> {
+        GatewayHost {
+            config,
+            driver: None,
+            up_at: 0,
             package,
-            size,
-            first_size: size,
-            ask_at: 0,
-            heard_at: 0,
-            over_at: None,
-            executing: false,
-            requests: 0,
-            fruitless: 0,
-            failed: 0,
-            started: 1,
-        })
-    }
-
-    fn has_succeeded(&self) -> bool {
-        self.gateway.ending().map_or(false, Ending::is_success)
-    }
-
-    /// Whether the gateway is to get this message. Before its offer is accepted, and when it is over, it would tell a
-    /// device that asks for fragments, or has them all, that there is no such upgrade, and the device would drop what
-    /// it has. Unanswered, the device asks again, and the next offer resumes. But that a download failed is answered
-    /// at the end too, or the device would say it for ever. A report is answered always: the device is done, and any
-    /// answer lets it rest.
-    fn wants(&self, message: &[u8]) -> bool {
-        let at_work = self.over_at.is_none();
-        let serves = at_work && matches!(self.gateway.phase(), GatewayPhase::Serve | GatewayPhase::Run);
-        match Code::of(message) {
-            Some(Code::UpgradeResult) => true,
-            Some(Code::Fragment) => serves,
-            Some(Code::DownloadResult) => serves || self.gateway.ending() == Some(Ending::DownloadFailed),
-            _ => at_work,
+            slots: [vec![0; GATEWAY_STATE], vec![0; GATEWAY_STATE]],
+            random: Random(seed),
+            ended: None,
+            killed: 0,
+            started: 0,
+            phase: GatewayPhase::Ask,
         }
     }
 
-    fn receive(&mut self, link: &mut Link, now: Ticks, message: &[u8]) -> Result<(), Failure> {
-        if !self.wants(message) {
-            return Ok(());
-        }
-        let mut reply = [0; GATEWAY_REPLY];
-        let answer = self.gateway.receive(Facts::BOTH, message, self.package, &mut reply);
-        let answer = match expected("Gateway::receive", answer)? {
-            Some(answer) => answer,
-            None => return Ok(()),
-        };
-        self.handled(now, message);
-        if let Some(reply) = answer.reply {
-            self.requests += 1;
-            link.send(now, End::Device, reply);
-        }
-        if answer.changed {
-            self.changed(now, message);
-        }
+    fn start(&mut self, now: Ticks) -> Result<(), Failure> {
+        let slots = [&self.slots[0][..], &self.slots[1][..]];
+        let driver = GatewayDriver::start(self.config, TARGET.as_bytes(), self.package, slots, now);
+        self.driver = Some(driver.map_err(Failure::Start)?);
         Ok(())
     }
 
-    /// Before the offer the gateway waits until what the device sent earlier, of its own accord, has arrived: in Serve
-    /// or Run it would count for this upgrade.
-    fn changed(&mut self, now: Ticks, message: &[u8]) {
-        let offers = self.gateway.phase() == GatewayPhase::Offer;
-        self.ask_at = if offers { now + QUIET } else { now };
-        if let Some(ending) = self.gateway.ending() {
-            self.ended(now, ending, message);
+    fn kill(&mut self, now: Ticks) {
+        self.driver = None;
+        self.up_at = now + AWAY;
+        self.killed += 1;
+        tell(format_args!("tick {}: the gateway restarts", now));
+    }
+
+    /// For the account: tells a gateway that ended, or after which another started.
+    fn tell(&mut self, driver: &GatewayDriver<&'a [u8]>, now: Ticks) {
+        let (started, phase) = (driver.gateways(), driver.gateway().phase());
+        if started > self.started && self.started > 0 && self.phase != GatewayPhase::Ended {
+            tell(format_args!("tick {}: gateway {} stood still in {:?}", now, self.started, self.phase));
+        }
+        if let Some(ending) = driver.gateway().ending().filter(|_| self.phase != GatewayPhase::Ended) {
+            let (number, said) = (u8::from(ending), driver.said());
+            tell(format_args!(
+                "tick {}: gateway {} ended with {}, {}; the device said {:02X}",
+                now, started, number, ending, said
+            ));
+        }
+        (self.started, self.phase) = (started, phase);
+    }
+
+    fn turn(&mut self, link: &mut Link, now: Ticks) {
+        while let Some(mut driver) = self.driver.take() {
+            self.tell(&driver, now);
+            self.ended = None;
+            match driver.poll(now) {
+                GatewayAction::Wait(_) => {
+                    self.driver = Some(driver);
+                    return;
+                }
+                GatewayAction::End(outcome) => {
+                    self.ended = Some(outcome);
+                    self.driver = Some(driver);
+                    return;
+                }
+                _ if self.random.once_in(KILLED) => return self.kill(now),
+                GatewayAction::Save { slot, bytes } => self.slots[slot].copy_from_slice(bytes),
+                GatewayAction::Send(bytes) => link.send(now, End::Device, bytes),
+            }
+            self.driver = Some(driver);
         }
     }
 
-    fn handled(&mut self, now: Ticks, message: &[u8]) {
-        self.heard_at = now;
-        self.executing |= Code::of(message) == Some(Code::Execute);
-    }
-
-    fn ended(&mut self, now: Ticks, ending: Ending, message: &[u8]) {
-        self.over_at = Some(now);
-        tell(format_args!(
-            "tick {}: gateway {} ended with {}, {}; the device said {:02X}",
-            now,
-            self.started,
-            u8::from(ending),
-            ending,
-            result_of(message).unwrap_or_default()
-        ));
-    }
-
-    fn stands_still(&mut self, now: Ticks) {
-        let phase = self.gateway.phase();
-        self.over_at = Some(now);
-        tell(format_args!("tick {}: gateway {} stands still in {:?}", now, self.started, phase));
-    }
-
-    fn ask(&mut self, link: &mut Link, now: Ticks) -> Result<(), Failure> {
-        let mut reply = [0; GATEWAY_REPLY];
-        let answer = self.gateway.next_message(self.package, &mut reply);
-        if let Some(message) = expected("Gateway::next_message", answer)?.flatten() {
-            link.send(now, End::Device, message);
+    fn receive(&mut self, link: &mut Link, now: Ticks, message: &[u8]) {
+        if let Some(driver) = &mut self.driver {
+            // What is refused was of no use: late, repeated, or dropped.
+            let _ = driver.receive(now, message);
         }
-        self.ask_at = now + RETRY;
+        self.turn(link, now);
+    }
+
+    fn tick(&mut self, link: &mut Link, now: Ticks) -> Result<(), Failure> {
+        if self.driver.is_none() && now >= self.up_at {
+            self.start(now)?;
+        }
+        self.turn(link, now);
         Ok(())
-    }
-
-    /// The next gateway, on the same package. One that stood still in Serve, and was asked for nothing, may have met a
-    /// device that holds the whole package and has told it to an earlier gateway. Another fragment size makes an offer
-    /// that is no resume: the device fetches the package again, and tests it again, which it would not if the offer had
-    /// no code. A download that failed is fetched again too, but not for ever: what failed twice was not damaged on the
-    /// way. False: no use in going on.
-    fn next(&mut self, now: Ticks) -> Result<bool, Failure> {
-        self.failed += u32::from(self.gateway.ending() == Some(Ending::DownloadFailed));
-        self.fruitless = if self.requests > 0 { 0 } else { self.fruitless + 1 };
-        if self.failed == MOST_FAILED || self.fruitless == MOST_FRUITLESS {
-            return Ok(false);
-        }
-        if self.gateway.phase() == GatewayPhase::Serve && self.requests == 0 {
-            self.size =
-                if self.size == self.first_size { other_size(self.first_size) } else { self.first_size };
-        }
-        self.gateway = start(self.size, self.package)?;
-        self.ask_at = now;
-        self.heard_at = now;
-        self.over_at = None;
-        self.executing = false;
-        self.requests = 0;
-        self.started += 1;
-        Ok(true)
-    }
-
-    /// A gateway is over when it has ended, or stands still. If that was no success, the next one starts, but not
-    /// before all that was sent has arrived or is lost. When the order to install has been answered, it is not given
-    /// again: a device that has finished meanwhile would refuse it. False: no use in going on.
-    fn tick(&mut self, link: &mut Link, now: Ticks) -> Result<bool, Failure> {
-        if self.has_succeeded() {
-            return Ok(true);
-        }
-        if let Some(over_at) = self.over_at {
-            return if now < over_at + QUIET { Ok(true) } else { self.next(now) };
-        }
-        if now >= self.heard_at + STANDSTILL {
-            self.stands_still(now);
-        } else if now >= self.ask_at && !self.executing {
-            self.ask(link, now)?;
-        }
-        Ok(true)
     }
 }
 
-/// Runs both hosts until the upgrade has succeeded and the device is at rest; false if that does not come about.
-fn upgrade(device: &mut DeviceHost, gateway: &mut GatewayHost, link: &mut Link) -> Result<bool, Failure> {
+/// What comes last leaves the device in one of these.
+fn has_all(device: &Device) -> bool {
+    match device.phase() {
+        DevicePhase::Loaded => true,
+        DevicePhase::Failed => device.stored() == device.total(),
+        _ => false,
+    }
+}
+
+/// For the account: all is stored, and was tested. Whether the digest failed it.
+fn tested(device: &Device, image: &[u8], now: Ticks) -> bool {
+    if device.phase() != DevicePhase::Failed {
+        return false;
+    }
+    let check = pcp::check_of_bytes(&image[..device.image_length()]);
+    let by_digest = device.check_code().map_or(true, |code| code == check);
+    let why = if by_digest { "MD5 is not the one given" } else { "check is not the one announced" };
+    tell(format_args!("tick {}: all is stored, and the image's {}", now, why));
+    by_digest
+}
+
+/// Runs both hosts until the upgrade is over, and the device at rest; how it ended.
+fn upgrade(device: &mut DeviceHost, gateway: &mut GatewayHost, link: &mut Link) -> Result<Outcome, Failure> {
     for now in 0..MOST_TICKS {
         link.tick(now);
         while let Some(message) = link.take(now) {
             match message.to {
                 End::Device => device.receive(link, now, &message.bytes)?,
-                End::Gateway => gateway.receive(link, now, &message.bytes)?,
+                End::Gateway => gateway.receive(link, now, &message.bytes),
             }
         }
         device.tick(link, now)?;
-        if !gateway.tick(link, now)? {
-            return Ok(false);
+        gateway.tick(link, now)?;
+        if device.driver.is_none() || gateway.driver.is_none() {
+            continue;
         }
-        if gateway.has_succeeded() && device.device.phase() == DevicePhase::Idle {
-            return Ok(true);
+        match gateway.ended {
+            Some(Outcome::Success) if !device.is_at_rest() => {}
+            Some(outcome) => return Ok(outcome),
+            None => {}
         }
     }
-    Ok(false)
+    Ok(Outcome::Time)
 }
 
 /// The account, and whether all is as it should be.
-fn report(device: &DeviceHost, gateway: &GatewayHost, link: &Link, succeeded: bool) -> bool {
+fn report(device: &DeviceHost, gateway: &GatewayHost, link: &Link, outcome: Outcome) -> bool {
     tell(format_args!("messages: {} sent, {} lost, {} repeated", link.sent, link.lost, link.repeated));
     tell(format_args!("fragments: {} stored, {} came again", device.stored, device.repeated));
-    tell(format_args!("resumes: {}, gateways: {}", device.resumes, gateway.started));
-    if device.digest.is_some() {
-        tell(format_args!("digests: {} given, {} failed", device.digests, device.other_digests));
+    tell(format_args!(
+        "restarts: {} of the device, {} of the gateway; gateways: {}",
+        device.killed, gateway.killed, gateway.started
+    ));
+    if gateway.config.digest.is_some() {
+        tell(format_args!("digest: {} images tested by it, {} failed", device.tested, device.failed));
     }
-    if !succeeded {
-        tell(format_args!("gave up: the device was not upgraded"));
-    } else if !device.runs_target() {
+    if outcome != Outcome::Success {
+        tell(format_args!("gave up: {}", outcome));
+    } else if device.version != TARGET {
         tell(format_args!("the device does not run {}", TARGET));
     } else if !device.image_is(gateway.package) {
         tell(format_args!("upgraded to {}, but the image is not the package", TARGET));
@@ -625,11 +558,15 @@ fn report(device: &DeviceHost, gateway: &GatewayHost, link: &Link, succeeded: bo
 }
 
 /// Reads no more than shows that a package is too long.
-fn read_package(path: &str) -> Result<Vec<u8>, Failure> {
-    let mut package = Vec::new();
-    let read = File::open(path).and_then(|file| file.take(MOST_PACKAGE + 1).read_to_end(&mut package));
-    read.map_err(|error| Failure::Read(path.to_string(), error))?;
-    Ok(package)
+fn read_package(path: &Path) -> Result<Vec<u8>, Failure> {
+    read_file(path, MOST_PACKAGE + 1).map_err(|error| Failure::Read(path.to_path_buf(), error))
+}
+
+/// A file's first bytes, at most so many.
+fn read_file(path: &Path, most: u64) -> io::Result<Vec<u8>> {
+    let mut bytes = Vec::new();
+    File::open(path)?.take(most).read_to_end(&mut bytes)?;
+    Ok(bytes)
 }
 
 /// Digits alone, for `parse` also takes a sign.
@@ -651,22 +588,19 @@ fn read_digest(text: &str) -> Option<Digest> {
 
 /// What the program is called with.
 struct Call {
-    capture: Option<String>,
+    capture: Option<PathBuf>,
     digest: Option<Digest>,
-    package: String,
+    package: PathBuf,
     seed: u64,
     size: u16,
 }
 
-fn arguments() -> Option<Call> {
-    let arguments: Vec<String> =
-        env::args_os().skip(1).map(|argument| argument.into_string().ok()).collect::<Option<_>>()?;
+fn read_call(mut others: &[String]) -> Option<Call> {
     let (mut capture, mut digest) = (None, None);
-    let mut others = arguments.as_slice();
     while let Some(option) = others.first().filter(|option| option.starts_with("--")) {
         let value = others.get(1)?;
         match option.as_str() {
-            "--capture" => capture = Some(value.clone()),
+            "--capture" => capture = Some(value.into()),
             "--digest" => digest = Some(read_digest(value)?),
             _ => return None,
         }
@@ -678,18 +612,36 @@ fn arguments() -> Option<Call> {
         [package, seed, size] => (package, read_number(seed)?, read_number(size)?),
         _ => return None,
     };
-    Some(Call { capture, digest, package: package.clone(), seed, size })
+    Some(Call { capture, digest, package: package.into(), seed, size })
+}
+
+/// Whether the device was upgraded.
+fn run_simulated(arguments: &[String]) -> Result<bool, Failure> {
+    let call = read_call(arguments).ok_or(Failure::Usage)?;
+    let package = read_package(&call.package)?;
+    let config = settings(call.size, call.digest)?;
+    let anew = |path| Recorder::new(path, OpenOptions::new().write(true).create(true).truncate(true));
+    let recorder = call.capture.as_deref().map(anew).transpose()?;
+    let mut gateway = GatewayHost::new(&config, call.seed.wrapping_add(1), &package);
+    gateway.start(0)?;
+    let mut device = DeviceHost::new(&config, !call.seed, recorder);
+    device.start(0)?;
+    let mut link = Link::new(call.seed);
+    let outcome = upgrade(&mut device, &mut gateway, &mut link)?;
+    Ok(report(&device, &gateway, &link, outcome))
 }
 
 fn run() -> Result<bool, Failure> {
-    let call = arguments().ok_or(Failure::Usage)?;
-    let package = read_package(&call.package)?;
-    let mut gateway = GatewayHost::new(&package, call.size)?;
-    let recorder = call.capture.as_deref().map(Recorder::new).transpose()?;
-    let mut device = DeviceHost::new(!call.seed, recorder, call.digest)?;
-    let mut link = Link::new(call.seed);
-    let succeeded = upgrade(&mut device, &mut gateway, &mut link)?;
-    Ok(report(&device, &gateway, &link, succeeded))
+    let words = env::args_os().skip(1).map(|argument| argument.into_string().ok());
+    let words: Vec<String> = words.collect::<Option<_>>().ok_or(Failure::Usage)?;
+    match words.split_first() {
+        Some((option, [])) if option == "--help" => {
+            tell(format_args!("{}", USAGE));
+            Ok(true)
+        }
+        Some((option, others)) if option == "--udp" => udp::run(others),
+        _ => run_simulated(&words),
+    }
 }
 
 fn main() -> ExitCode {

@@ -4,7 +4,7 @@
 use pcp::capture::{self, Direction, Item, Reader, Record};
 use pcp::{
     Code, Condition, Device, DevicePhase, Ending, Facts, Gateway, GatewayPhase, InstallCode, Refusal,
-    DEVICE_RECORD, DEVICE_REPLY, DIGEST_LENGTH, GATEWAY_RECORD, GATEWAY_REPLY,
+    Version, DEVICE_RECORD, DEVICE_REPLY, DIGEST_LENGTH, GATEWAY_RECORD, GATEWAY_REPLY,
 };
 
 /// Two fragments: 32 bytes, then 18.
@@ -461,4 +461,18 @@ fn a_record_without_room_is_refused_whole() {
     // Damage is daily work; a buffer that is too short is the host's.
     assert!(!Refusal::BadMark.is_hosts_fault() && !Refusal::CutShort.is_hosts_fault());
     assert!(Refusal::DoesNotFit.is_hosts_fault());
+}
+
+#[test]
+fn a_version_is_made_of_its_text() {
+    let version = Version::new(b"V2.0_rc-1").expect("a version text");
+    assert_eq!((version.as_str(), version.as_bytes()), ("V2.0_rc-1", b"V2.0_rc-1\0\0\0\0\0\0\0"));
+    for text in [&b""[..], b"V 2.0", b"a text of 17 byte"] {
+        assert_eq!(Version::new(text), Err(Refusal::BadVersionText));
+    }
+}
+
+#[test]
+fn the_manifest_has_the_librarys_version() {
+    assert_eq!(pcp::VERSION, env!("CARGO_PKG_VERSION"));
 }
