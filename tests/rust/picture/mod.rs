@@ -7,4 +7,5 @@ pub mod gateway;
 mod layers;
 mod machine;
 mod plan;
+#[path = "../../../tools/svg.rs"]
 mod svg;

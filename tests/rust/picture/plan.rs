@@ -1,7 +1,7 @@
 //! Draws the phases of an end where a plan places them.
 
 use super::machine::{Machine, Phase};
-use super::svg::{Anchor, Frame, Picture, Point};
+use super::svg::{wrapped, Anchor, Frame, Picture, Point};
 use std::collections::BTreeSet;
 use std::fmt::Debug;
 
@@ -135,18 +135,6 @@ fn lines_of(picture: &mut Picture, class: &str, first: Point, anchor: Anchor, li
     for (line, y) in lines.iter().zip((first.1..).step_by(LINE_HEIGHT as usize)) {
         picture.text(class, (first.0, y), anchor, line);
     }
-}
-
-/// A label in lines of so many characters, broken between words.
-fn wrapped(label: &str, most: usize) -> Vec<String> {
-    let mut lines: Vec<String> = Vec::new();
-    for word in label.split(' ') {
-        match lines.last_mut() {
-            Some(line) if line.len() + 1 + word.len() <= most => *line += &format!(" {}", word),
-            _ => lines.push(word.to_string()),
-        }
-    }
-    lines
 }
 
 const RADIUS: i32 = 12;

@@ -1,4 +1,7 @@
-//! The few shapes of SVG that the pictures take.
+//! The few shapes of SVG that pictures and charts take.
+
+// Each program uses a part of it.
+#![allow(dead_code)]
 
 /// From the left, and from the top.
 pub type Point = (i32, i32);
@@ -47,15 +50,21 @@ markerHeight=\"7\" orient=\"auto\"><path d=\"M0 0 L10 5 L0 10 z\" fill=\"#57606a
 pub struct Picture {
     width: i32,
     height: i32,
+    style: String,
     shapes: String,
 }
 
 impl Picture {
     /// A white ground, so that the picture can also be read on a dark page.
     pub fn new(width: i32, height: i32) -> Picture {
-        let mut picture = Picture { width, height, shapes: String::new() };
+        let mut picture = Picture { width, height, style: STYLE.to_string(), shapes: String::new() };
         picture.frame("ground", Frame { left: 1, top: 1, width: width - 2, height: height - 2 });
         picture
+    }
+
+    /// Rules of style for further classes.
+    pub fn add_style(&mut self, rules: &str) {
+        self.style += rules;
     }
 
     pub fn frame(&mut self, class: &str, frame: Frame) {
@@ -84,7 +93,11 @@ impl Picture {
 
     /// An arrow along a path, whose form is SVG's.
     pub fn arrow(&mut self, path: &str) {
-        self.shapes += &format!("<path class=\"arrow\" d=\"{}\"/>\n", path);
+        self.path("arrow", path);
+    }
+
+    pub fn path(&mut self, class: &str, path: &str) {
+        self.shapes += &format!("<path class=\"{}\" d=\"{}\"/>\n", class, path);
     }
 
     pub fn svg(&self, title: &str) -> String {
@@ -94,11 +107,23 @@ impl Picture {
             self.width,
             self.height,
             escaped(title),
-            STYLE,
+            self.style,
             HEAD,
             self.shapes
         )
     }
+}
+
+/// A label in lines of so many characters, broken between words.
+pub fn wrapped(label: &str, most: usize) -> Vec<String> {
+    let mut lines: Vec<String> = Vec::new();
+    for word in label.split(' ') {
+        match lines.last_mut() {
+            Some(line) if line.len() + 1 + word.len() <= most => *line += &format!(" {}", word),
+            _ => lines.push(word.to_string()),
+        }
+    }
+    lines
 }
 
 fn escaped(text: &str) -> String {
