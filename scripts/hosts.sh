@@ -1,13 +1,9 @@
 # Shared by the other scripts, which source it at the repository's root.
 
+. "$(dirname "${BASH_SOURCE[0]}")/use.sh"
+
 archive=target/staticlib/libpcp.a
 sanitizers=(-fsanitize=address,undefined -fno-sanitize-recover=all)
-
-# usage WORDS..: tells how a script is called, and ends it: status 2 is for wrong arguments alone.
-usage() {
-    echo "usage: $*" >&2
-    exit 2
-}
 
 # are_numbers TEXT..: whether each is a number, such that a program can take it.
 are_numbers() {
@@ -65,15 +61,16 @@ for_each() {
     done
 }
 
-# c_host SOURCE PROGRAM FLAG..: builds a C program that links the library, as the header says.
+# c_host SOURCE PROGRAM FLAG..: builds a C program that links the library, as the header says. Further sources may stand
+# among the flags.
 c_host() {
-    mkdir -p target/hosts
+    writable target/hosts
     gcc -std=c99 -Wall -Wextra -Werror -O2 "${@:3}" -Iinclude "$1" -L"$(dirname "$archive")" -lpcp -o "target/hosts/$2"
 }
 
 # rust_program SOURCE PROGRAM FLAG..: builds a Rust program; with --crate-type, a crate.
 rust_program() {
-    mkdir -p target/hosts
+    writable target/hosts
     rustc --edition 2021 -C opt-level=3 -D warnings -o "target/hosts/$2" "$1" "${@:3}"
 }
 
@@ -88,6 +85,22 @@ with_wrapper=(--extern pcp=target/hosts/libpcp.rlib)
 # rust_host SOURCE PROGRAM FLAG..: builds a Rust program that links the library through this crate.
 rust_host() {
     rust_program "$1" "$2" "${with_wrapper[@]}" -C link-arg="$archive" "${@:3}"
+}
+
+# tool NAME: builds a program of tools/, unless it is there and newer than all that it is made of. What it prints
+# meanwhile goes to standard error, and it reads nothing: standard input and output are the tool's.
+tool() {
+    local program=target/hosts/$1
+    if [ -x "$program" ] && [ -f "$archive" ] &&
+        [ -z "$(find tools hosts/rust "$archive" -type f -newer "$program" -print -quit)" ]; then
+        return
+    fi
+    {
+        need rustc
+        [ -f "$archive" ] || rt staticlib pcp
+        wrapper
+        rust_host "tools/$1/main.rs" "$1"
+    } </dev/null >&2
 }
 
 # plain_rust: builds both ends in plain Rust, a crate of its own, so that neither side is inlined into what times it. Its
@@ -125,7 +138,19 @@ done
 
 # boundary_object: compiles tests/c/boundary.c with sanitizers.
 boundary_object() {
-    mkdir -p target/hosts
+    writable target/hosts
     gcc -std=c99 -Wall -Wextra -Werror -O1 -g "${sanitizers[@]}" -Iinclude -c tests/c/boundary.c \
         -o target/hosts/boundary.o
 }
+
+# driver_calls NAME FLAG..: compiles the drivers in C as symbols, for programs in Rust.
+driver_calls() {
+    writable target/hosts
+    gcc -std=c99 -Wall -Wextra -Werror -O2 "${@:2}" -Iinclude -c tests/c/driver_calls.c -o "target/hosts/$1.o"
+}
+
+# What a Rust program needs so that it finds these, as they are or with sanitizers; they call the archive, which comes
+# after them once more.
+with_driver_calls=(-C link-arg=target/hosts/driver_calls.o -C link-arg="$archive")
+with_sanitized_driver_calls=(-C linker=gcc -C default-linker-libraries=yes -C link-arg="${sanitizers[0]}"
+    -C link-arg=target/hosts/driver_calls_sanitized.o -C link-arg="$archive")
