@@ -1,6 +1,8 @@
 // What the crates above share: choice by a test, refusals in order, least and product, bytes, numbers
 // and parts of a slice, membership, the one way in which a buffer is written, and the numbers that
 // calls answer with.
+#![tactic(auto)]
+
 pub mod number;
 
 ghost use Rattle.std.specs.Prelude.{◌≡◌, ◌++◌, ◌+◌, ◌*◌, ◌≤◌, min, length, get_or};
@@ -148,7 +150,7 @@ pub fn put(buffer: &mut [u8], at: usize, src: &[u8])
     requires { at + length src.now ≤ length buffer.old }
     ensures { buffer.new ≡ patched at src.now buffer.old }
 {
-    bytes::copy(src, &mut buffer[at..]);
+    buffer[at..at + src.len()].copy_from_slice(src);
 }
 
 // Sixteen bytes from a place on, 00 for each that is not there: a version text, or a digest.

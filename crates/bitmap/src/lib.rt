@@ -1,5 +1,7 @@
 // The map of stored fragments: a bit for each, in bytes that the caller lends. Bit index mod 8 of
 // byte index/8 is the fragment's, lowest first.
+#![tactic(auto)]
+
 ghost use Rattle.std.specs.Prelude.{◌≡◌, [], ◌∷◌, ◌^◌, ◌%◌, ◌≤◌, ◌<◌, min, length};
 ghost use Rattle.bitmap.specs.Bitmap.{marked, mark, cleared, lowest_missing};
 ghost use Rattle.bitmap.specs.Inner.{full, Skipped};

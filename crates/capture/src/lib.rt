@@ -3,6 +3,8 @@
 // holds the borrowed capture and its place (01's walker). The work is done by functions on a slice and
 // a number; those over the reader only take it apart, and `walk_from` and `mend_from` serve callers
 // that hold the place as a number.
+#![tactic(auto)]
+
 mod mend;
 mod write;
 
@@ -33,14 +35,14 @@ pub const CAPTURE_MOST: usize = 32768;
 
 // What a writer answers: 0 and the place behind the record, or the number why there is none and the
 // place itself.
-#[derive(Drop)]
+#[derive(Clone, Copy)]
 pub struct Wrote {
     pub number: u8,
     pub at: usize,
 }
 
 // What stands at a place of a capture.
-#[derive(Drop)]
+#[derive(Clone, Copy)]
 pub enum Step {
     // A whole record. Its message is length bytes from start on, which `basis::part_of` lends; the
     // next place is behind it.
@@ -56,7 +58,7 @@ pub enum Step {
 }
 
 // What mending finds at a place of a capture.
-#[derive(Drop)]
+#[derive(Clone, Copy)]
 pub enum Part {
     // A whole record, as a step has it.
     Record {
@@ -74,14 +76,14 @@ pub enum Part {
 }
 
 // A mending reader's step: what it finds at its place, and its place after that.
-#[derive(Drop)]
+#[derive(Clone, Copy)]
 pub struct Mended {
     pub part: Part,
     pub at: usize,
 }
 
 // A reader's step: what stands at its place, and its place after that.
-#[derive(Drop)]
+#[derive(Clone, Copy)]
 pub struct Walked {
     pub step: Step,
     pub at: usize,
@@ -143,7 +145,7 @@ fn walk_at(capture: &[u8], at: usize) -> Walked
 }
 
 // A borrowed capture and the place of its next record.
-#[derive(Drop)]
+#[derive(Clone, Copy)]
 pub struct CaptureReader<'a> {
     pub capture: &'a [u8],
     pub at: usize,

@@ -22,7 +22,7 @@ fn eight(bytes: &[u8], at: usize) -> u64
 
 // What is left of some bytes: thirteen bytes, 0 to 7 in the one word and 5 to 12 in the other, and those
 // from a place on.
-#[derive(Drop)]
+#[derive(Clone, Copy)]
 pub(crate) struct Folded {
     pub(crate) low: u64,
     pub(crate) high: u64,

@@ -1,5 +1,7 @@
 // The PCP check (01, "The message and its check"): a 16-bit sum over bytes that shifts right over a
 // left-shifting table, as the published values have it.
+#![tactic(auto)]
+
 mod fold;
 mod quads;
 

@@ -1,5 +1,7 @@
 // PCP messages as bytes: the twelve messages read and written (01, "The message and its check",
 // "Recognising a message").
+#![tactic(auto)]
+
 mod parts;
 mod read;
 mod write;
@@ -14,7 +16,7 @@ pub const DATA: usize = 8;
 
 // What a writer answers, and what an ask for the next message: 0 and the length of the message at the
 // front of the buffer, or the number why there is none and 0.
-#[derive(Drop)]
+#[derive(Clone, Copy)]
 pub struct Written {
     pub number: u8,
     pub length: usize,

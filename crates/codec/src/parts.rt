@@ -10,7 +10,7 @@ use message::{ToDevice, ToGateway};
 
 // The result and the WORDs themselves, and of each part how many bytes there are; the version text
 // and the data stand beside it.
-#[derive(Drop)]
+#[derive(Clone, Copy)]
 pub(crate) struct Parts {
     pub code: u8,
     pub result: u8,

@@ -1,5 +1,7 @@
 // A capture as text: a line for each record, with its place, its direction, and its message by name and
 // fields, or the number and the reason for which it is none; then a line where the reader stops.
+#![tactic(auto)]
+
 mod line;
 mod shown;
 
@@ -21,7 +23,7 @@ pub const OUT_ROOM: usize = LINE_MOST * (CAPTURE_MOST / 4 + 1);
 
 // What a turn leaves: whether more follows, the next place in the capture, and the place behind the
 // text.
-#[derive(Drop)]
+#[derive(Clone, Copy)]
 struct Turn {
     more: bool,
     at: usize,

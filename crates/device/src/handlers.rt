@@ -105,9 +105,9 @@ pub(crate) fn on_fragment(
 ) -> Answer
     requires device_value { record_ok device ≡ true }
     requires map_value { memory_ok device image.old map.old ≡ true }
-    ensures* fact { λ r. ⌜ ((result index : ℕ) → message ≡ ToDevice.Fragment result index → (reply : List ℕ)
-        → after_call r image.new map.new reply
-        ≡ on_fragment device image.old map.old reply result index content.now) ⌝ }
+    ensures fact { (code index : ℕ) → message ≡ ToDevice.Fragment code index → (reply : List ℕ)
+        → after_call result image.new map.new reply
+        ≡ on_fragment device image.old map.old reply code index content.now }
     ensures by_index { (number : ℕ) → message ≡ ToDevice.Refused number → (reply : List ℕ)
         → after_call result image.new map.new reply
         ≡ refuse device image.old map.old reply number }
@@ -137,8 +137,8 @@ pub(crate) fn on_fragment(
 
 // 22: Loaded with 00 goes Acked, with 80 Idle; Failed goes Idle.
 pub(crate) fn on_download_reply(device: Device, message: ToDevice) -> Answer
-    ensures* fact { λ r. ⌜ ((result : ℕ) → message ≡ ToDevice.DownloadReply result → (image map reply : List ℕ)
-        → after_call r image map reply ≡ on_download_reply device image map reply result) ⌝ }
+    ensures fact { (code : ℕ) → message ≡ ToDevice.DownloadReply code → (image map reply : List ℕ)
+        → after_call result image map reply ≡ on_download_reply device image map reply code }
     ensures by_index { (number : ℕ) → message ≡ ToDevice.Refused number → (image map reply : List ℕ)
         → after_call result image map reply ≡ refuse device image map reply number }
 {
@@ -184,8 +184,8 @@ pub(crate) fn on_execute(
 
 // 24 in Reporting: Idle, with either result.
 pub(crate) fn on_result_reply(device: Device, message: ToDevice) -> Answer
-    ensures* fact { λ r. ⌜ ((result : ℕ) → message ≡ ToDevice.ResultReply result → (image map reply : List ℕ)
-        → after_call r image map reply ≡ on_result_reply device image map reply) ⌝ }
+    ensures fact { (code : ℕ) → message ≡ ToDevice.ResultReply code → (image map reply : List ℕ)
+        → after_call result image map reply ≡ on_result_reply device image map reply }
     ensures by_index { (number : ℕ) → message ≡ ToDevice.Refused number → (image map reply : List ℕ)
         → after_call result image map reply ≡ refuse device image map reply number }
 {

@@ -1,4 +1,6 @@
 // The device's end of an upgrade ("head" in 01): the calls that a host makes of it.
+#![tactic(auto)]
+
 mod handlers;
 mod replies;
 mod steps;

@@ -1,6 +1,8 @@
 // What the device decides of the messages that it is given: the tests of 20, 21 and 23 (01, "The
 // head", as 02, 2026-05 and 2026-06, amends it), each by itself, over the record and plain values.
 // Nothing is written here.
+#![tactic(auto)]
+
 ghost use Rattle.std.specs.Prelude.{◌≡◌, eqb, leb};
 ghost use Rattle.basis.specs.Choice.{pick};
 ghost use Rattle.device_rules.specs.Decisions.{announce_result, same_fields, resumes, fragment_length, repeat_refusal, fragment_refusal};

@@ -1,5 +1,7 @@
 // The record of the device ("head" in 01): how it is made, whether it keeps the rules, and what each
 // call is refused for before anything is done.
+#![tactic(auto)]
+
 ghost use Rattle.std.specs.Prelude.{◌≡◌};
 ghost use Rattle.device_record.specs.Record.{new_of};
 
@@ -16,7 +18,7 @@ pub use record::{
 };
 
 // The digest that the completed bytes must have, where one was given (02, 2026-05).
-#[derive(Drop)]
+#[derive(Clone, Copy)]
 pub struct Expected {
     // 0: none was given, and the digest is zeros; 1: this one.
     pub set: u8,
@@ -24,7 +26,7 @@ pub struct Expected {
 }
 
 // What the device keeps between calls. The host keeps it, and lends it by value to every call.
-#[derive(Drop)]
+#[derive(Clone, Copy)]
 pub struct Device {
     // 0 Idle, 1 Loading, 2 Loaded, 3 Acked, 4 Failed, 5 Installing, 6 Reporting.
     pub phase: u8,
@@ -42,7 +44,7 @@ pub struct Device {
 }
 
 // What making a device answers: 0 and the device, or 17 and a record that every call refuses.
-#[derive(Drop)]
+#[derive(Clone, Copy)]
 pub struct Made {
     pub number: u8,
     pub device: Device,

@@ -23,8 +23,8 @@ fn by_result(res: u8, good: Gateway, bad: Gateway) -> Gateway
 
 // 19 answer in Ask: the target already runs, which ends with 1, else Offer.
 pub(crate) fn on_query_reply(gateway: Gateway, message: ToGateway, version: [u8; 16]) -> Answer
-    ensures* fact { λ r. ⌜ ((result : ℕ) → message ≡ ToGateway.QueryReply result → (content reply : List ℕ) → after_call r reply
-        ≡ on_query_reply gateway content reply version) ⌝ }
+    ensures fact { (code : ℕ) → message ≡ ToGateway.QueryReply code → (content reply : List ℕ) → after_call result reply
+        ≡ on_query_reply gateway content reply version }
     ensures by_index { (number : ℕ) → message ≡ ToGateway.Refused number → (content reply : List ℕ) → after_call result reply
         ≡ refuse gateway content reply number }
 {
@@ -39,8 +39,8 @@ pub(crate) fn on_query_reply(gateway: Gateway, message: ToGateway, version: [u8;
 
 // 20 answer in Offer: 00 to Serve, else ends with 2.
 pub(crate) fn on_announce_reply(gateway: Gateway, message: ToGateway) -> Answer
-    ensures* fact { λ r. ⌜ ((result : ℕ) → message ≡ ToGateway.AnnounceReply result → (content reply : List ℕ) → after_call r reply
-        ≡ on_announce_reply gateway content reply result) ⌝ }
+    ensures fact { (code : ℕ) → message ≡ ToGateway.AnnounceReply code → (content reply : List ℕ) → after_call result reply
+        ≡ on_announce_reply gateway content reply code }
     ensures by_index { (number : ℕ) → message ≡ ToGateway.Refused number → (content reply : List ℕ) → after_call result reply
         ≡ refuse gateway content reply number }
 {
@@ -83,8 +83,8 @@ pub(crate) fn on_fragment_request(
 // 22 in Serve: 00 to Run, other codes end with 3; the reply is 00. In Run the reply is 00, else 80.
 pub(crate) fn on_download_report(gateway: Gateway, message: ToGateway, reply: &mut [u8]) -> Answer
     requires { gateway_room ≤ length reply.old }
-    ensures* fact { λ r. ⌜ ((result : ℕ) → message ≡ ToGateway.DownloadReport result → (content : List ℕ) → after_call r reply.new
-        ≡ on_download_report gateway content reply.old result) ⌝ }
+    ensures fact { (code : ℕ) → message ≡ ToGateway.DownloadReport code → (content : List ℕ) → after_call result reply.new
+        ≡ on_download_report gateway content reply.old code }
     ensures by_index { (number : ℕ) → message ≡ ToGateway.Refused number → (content : List ℕ) → after_call result reply.new
         ≡ refuse gateway content reply.old number }
 {
@@ -104,8 +104,8 @@ pub(crate) fn on_download_report(gateway: Gateway, message: ToGateway, reply: &m
 
 // 23 answer in Run: 00 changes nothing, else ends with 4.
 pub(crate) fn on_execute_reply(gateway: Gateway, message: ToGateway) -> Answer
-    ensures* fact { λ r. ⌜ ((result : ℕ) → message ≡ ToGateway.ExecuteReply result → (content reply : List ℕ) → after_call r reply
-        ≡ on_execute_reply gateway content reply result) ⌝ }
+    ensures fact { (code : ℕ) → message ≡ ToGateway.ExecuteReply code → (content reply : List ℕ) → after_call result reply
+        ≡ on_execute_reply gateway content reply code }
     ensures by_index { (number : ℕ) → message ≡ ToGateway.Refused number → (content reply : List ℕ) → after_call result reply
         ≡ refuse gateway content reply number }
 {
@@ -126,8 +126,8 @@ pub(crate) fn on_result_report(
     reply: &mut [u8],
 ) -> Answer
     requires { gateway_room ≤ length reply.old }
-    ensures* fact { λ r. ⌜ ((result : ℕ) → message ≡ ToGateway.ResultReport result → (content : List ℕ) → after_call r reply.new
-        ≡ on_result_report gateway content reply.old result version) ⌝ }
+    ensures fact { (code : ℕ) → message ≡ ToGateway.ResultReport code → (content : List ℕ) → after_call result reply.new
+        ≡ on_result_report gateway content reply.old code version }
     ensures by_index { (number : ℕ) → message ≡ ToGateway.Refused number → (content : List ℕ) → after_call result reply.new
         ≡ refuse gateway content reply.old number }
 {

@@ -1,5 +1,7 @@
 // The gateway's end of an upgrade (platform): the calls that a host makes of it. One package, one
 // device.
+#![tactic(auto)]
+
 mod handlers;
 mod replies;
 mod steps;

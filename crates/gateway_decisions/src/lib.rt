@@ -1,5 +1,7 @@
 // What the gateway decides of the messages that it is given: the tests of 19, 21 and 24 (01, "The
 // gateway"), each by itself, over the record and plain values. Nothing is written here.
+#![tactic(auto)]
+
 ghost use Rattle.std.specs.Prelude.{◌≡◌};
 ghost use Rattle.gateway_rules.specs.Decisions.{after_query, serving, fragment_result, install_ending};
 

@@ -1,5 +1,7 @@
 // The record of the gateway: how it is started, whether it keeps the rules, and what each call is
 // refused for before anything is done; and the package in fragments.
+#![tactic(auto)]
+
 ghost use Rattle.std.specs.Prelude.{◌≡◌};
 ghost use Rattle.gateway_record.specs.Record.{start_of};
 
@@ -16,7 +18,7 @@ pub use record::{ended_with, in_phase, record_ok};
 
 // What the gateway keeps between calls. The host keeps it, and lends it by value to every call, with
 // the package beside it.
-#[derive(Drop)]
+#[derive(Clone, Copy)]
 pub struct Gateway {
     // 0 Ask, 1 Offer, 2 Serve, 3 Run, 4 Ended.
     pub phase: u8,
@@ -30,7 +32,7 @@ pub struct Gateway {
 
 // What starting a gateway answers: 0 and the gateway, or the number of the refusal and a record that
 // every call refuses.
-#[derive(Drop)]
+#[derive(Clone, Copy)]
 pub struct Started {
     pub number: u8,
     pub gateway: Gateway,

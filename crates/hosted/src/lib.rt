@@ -1,2 +1,3 @@
 // Runs of both ends through the exports, over records that their hosts keep as bytes. Definitions and
 // proofs, no code.
+#![tactic(auto)]

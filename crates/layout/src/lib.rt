@@ -1,5 +1,7 @@
 // The records as bytes in a buffer that a host lends (docs/MANUAL.md has the layouts). Any bytes are
 // some record: whether it keeps the rules, the calls tell (29).
+#![tactic(auto)]
+
 ghost use Rattle.std.specs.Prelude.{◌≡◌, [], ◌∷◌, ◌++◌, ◌≤◌, length};
 ghost use Rattle.basis.specs.Bytes.{word_bytes, qword_bytes, over, patched};
 ghost use Rattle.layout_rules.specs.Layout.{device_at, front_bytes, front_length, expected_bytes, device_bytes, device_length};

@@ -1,5 +1,7 @@
 // MD5 (RFC 1321; 02, 2026-05): the digest of bytes, whole or in pieces. It helps against accidents, and not against
 // someone who means harm.
+#![tactic(auto)]
+
 ghost use Rattle.std.specs.Prelude.{◌≡◌, ◌+◌, ◌%◌, ◌<◌, ◌≤◌, length};
 ghost use Rattle.md5_rules.specs.Md5.{sines, start_words, low_first, digest_of, md5_of};
 ghost use Rattle.md5_rules.specs.Stream.{new_of, feed_of, finish_of};

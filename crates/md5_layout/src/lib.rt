@@ -1,5 +1,7 @@
 // The state of MD5 between two pieces as bytes in a buffer that a host lends (include/pcp_md5.h has
 // the layout). Any bytes are some state.
+#![tactic(auto)]
+
 ghost use Rattle.std.specs.Prelude.{◌≡◌, ◌+◌, ◌≤◌, length};
 ghost use Rattle.basis.specs.Bytes.{dword_bytes, part, over, patched};
 ghost use Rattle.md5_layout.specs.Layout.{words_at, words_bytes, state_at, state_bytes, state_length, state_kept};

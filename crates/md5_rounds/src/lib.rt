@@ -1,6 +1,8 @@
 // The four rounds of MD5 over a block (RFC 1321, section 3.4), and over as many blocks as there are. The
 // table of constants is lent down: so the compiler adds each from memory, before the round's function
 // is known. Each round has functions of its own: so its rotations are known where they are compiled.
+#![tactic(auto)]
+
 ghost use Rattle.std.specs.Prelude.{◌≡◌, ◌+◌, ◌*◌, ◌/◌, ◌<◌, ◌≤◌, [], ◌∷◌, length};
 ghost use Rattle.md5_rules.specs.Md5.{◌⊕◌, ◌⋘◌, mix_f, mix_g, mix_h, mix_i, sines, block_word, step, steps};
 ghost use Rattle.md5_rules.specs.Md5.{first_round, second_round, third_round, fourth_round, increased, compressed, blocks};

@@ -2,7 +2,9 @@
 // md5_rounds and md5, which are proved equal to them; here are only the structs that these share.
 
 // The four words, A to D.
-#[derive(Drop)]
+#![tactic(auto)]
+
+#[derive(Clone, Copy)]
 pub struct Words {
     pub a: u32,
     pub b: u32,
@@ -12,7 +14,7 @@ pub struct Words {
 
 // The state between two pieces: the words after the whole blocks so far, the number of bytes so far, and
 // the block that is not whole yet, with as many bytes at its front as the number is over a multiple of 64.
-#[derive(Drop)]
+#[derive(Clone, Copy)]
 pub struct Md5 {
     pub words: Words,
     pub count: u64,

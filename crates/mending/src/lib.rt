@@ -1,5 +1,7 @@
 // A whole capture mended (02, 2026-02): its records written one after the other, and a line for each
 // stretch that was passed over.
+#![tactic(auto)]
+
 ghost use Rattle.std.specs.Prelude.{◌≡◌, ◌+◌, ◌-◌, ◌≤◌, length};
 ghost use Rattle.capture_rules.specs.Capture.{capture_most};
 ghost use Rattle.capture_rules.specs.Mending.{part_at};
@@ -20,7 +22,7 @@ const STRETCH_MOST: usize = 12;
 pub const TOLD_ROOM: usize = STRETCH_MOST * CAPTURE_MOST;
 
 // What mend answers: how many bytes of each buffer it wrote.
-#[derive(Drop)]
+#[derive(Clone, Copy)]
 pub struct Answer {
     pub length: usize,
     pub told: usize,
@@ -28,7 +30,7 @@ pub struct Answer {
 
 // How far mending has come: its place in the capture, and the places behind the records and behind
 // the lines.
-#[derive(Drop)]
+#[derive(Clone, Copy)]
 struct Reached {
     at: usize,
     end: usize,

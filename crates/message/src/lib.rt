@@ -1,5 +1,7 @@
 // PCP messages: recognition, version text, and the twelve messages with what 01's table allows in them
 // (01, "Recognising a message").
+#![tactic(auto)]
+
 mod announcement;
 mod ranges;
 mod recognition;
@@ -14,7 +16,7 @@ pub use version::{good_version, same_version, version_at, version_length};
 pub const PROTOCOL_VERSION: u8 = 0x01;
 
 // The four fields of an announcement, which name a package: 01's version, size, total and code.
-#[derive(Drop)]
+#[derive(Clone, Copy)]
 pub struct Fields {
     pub version: [u8; 16],
     pub size: u16,
@@ -38,7 +40,7 @@ impl Fields {
 
 // A message toward the device ("head" in 01). An enum holds no array: the version text of an
 // announcement and the data of a fragment stand beside it.
-#[derive(Drop)]
+#[derive(Clone, Copy)]
 pub enum ToDevice {
     Refused(u8),
     Query,
@@ -55,7 +57,7 @@ impl ToDevice {
 }
 
 // A message toward the gateway, with its version text beside it.
-#[derive(Drop)]
+#[derive(Clone, Copy)]
 pub enum ToGateway {
     Refused(u8),
     QueryReply(u8),

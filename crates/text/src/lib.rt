@@ -1,5 +1,7 @@
 // Text into a buffer, from a place on; each function answers the place behind what it wrote. Text that
 // has no room there is not written, and the place stands.
+#![tactic(auto)]
+
 mod hex;
 
 ghost use Rattle.std.specs.Prelude.{◌≡◌, ◌+◌, ◌-◌, ◌%◌, leb, length};

@@ -1,5 +1,7 @@
 // What replay prints for a capture (01, "Capture and replay"): a line for each record toward the
 // device, made by a device that is given the records' messages one after the other.
+#![tactic(auto)]
+
 mod line;
 
 ghost use Rattle.std.specs.Prelude.{◌≡◌, false, suc, ◌+◌, ◌≤◌, length};
@@ -34,7 +36,7 @@ pub const OUT_ROOM: usize = LINE_MOST * (CAPTURE_MOST / 4 + 1);
 
 // What one turn of replay leaves: whether more follows, the next place in the capture, the place
 // behind the text, and the device's last answer.
-#[derive(Drop)]
+#[derive(Clone, Copy)]
 struct Turn {
     more: bool,
     at: usize,
