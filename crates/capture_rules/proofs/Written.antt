@@ -204,7 +204,7 @@ writing =
       refused = λ to_device message buffer at.
           by_room to_device message buffer at (λ w. (w.number ≡ handled → ⊥) → w ≡ record { number = does_not_fit; at = at; buffer = buffer })
           (λ _ n. absurd (n refl)) (λ _ _. refl);
-      no_room_lem = λ to_device message buffer at none.
+      no_room = λ to_device message buffer at none.
           by_room to_device message buffer at (λ w. w.number ≡ does_not_fit) (λ fit. not_both to_device message buffer at fit none) (λ _. refl);
       only_there = λ to_device message buffer at.
           by_room to_device message buffer at (λ w. w.number ≡ does_not_fit → NoRoom to_device message buffer at) (λ _ n. absurd (omega arith)) (λ none _. none);

@@ -54,7 +54,7 @@ pub record Writing : Type 0 where
   pub refused : (to_device : Bool) (message buffer : List ℕ) (at : ℕ) → ((write_at to_device message buffer at).number ≡ handled → ⊥)
       → write_at to_device message buffer at ≡ record { number = does_not_fit; at = at; buffer = buffer }
   -- 22 where there is no room, and only there
-  pub no_room_lem : (to_device : Bool) (message buffer : List ℕ) (at : ℕ) → NoRoom to_device message buffer at
+  pub no_room : (to_device : Bool) (message buffer : List ℕ) (at : ℕ) → NoRoom to_device message buffer at
       → (write_at to_device message buffer at).number ≡ does_not_fit
   pub only_there : (to_device : Bool) (message buffer : List ℕ) (at : ℕ) → (write_at to_device message buffer at).number ≡ does_not_fit
       → NoRoom to_device message buffer at

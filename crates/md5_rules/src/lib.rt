@@ -1,9 +1,8 @@
 // MD5 (RFC 1321; 02, 2026-05) as definitions, over bytes as a whole and in pieces, with cases and claims. The code is in
 // md5_rounds and md5, which are proved equal to them; here are only the structs that these share.
-
-// The four words, A to D.
 #![tactic(auto)]
 
+// The four words, A to D.
 #[derive(Clone, Copy)]
 pub struct Words {
     pub a: u32,

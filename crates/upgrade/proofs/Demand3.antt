@@ -30,7 +30,7 @@ use Rattle.gateway_rules.proofs.Answered.{receive_other, ask_other}
 use Rattle.gateway_rules.proofs.Views.{turned_keeps}
 use Rattle.gateway_record.proofs.Package.{starts, started_fields, total_covers, below_total, total_some, fragment_is}
 use Rattle.upgrade.specs.Fold.{after, Allowed}
-use Rattle.upgrade.specs.Calls.{DeviceCall, given, asked, finished, GatewayCall, Call, at_device, at_gateway, next, May}
+use Rattle.upgrade.specs.Calls.{DeviceCall, given, asked, finished, GatewayCall, Call, at_device, at_gateway, next, May, digest_given}
 use Rattle.upgrade.specs.Records.{DeviceEnd, device_does, gateway_does, gateway_next, World, records}
 use Rattle.upgrade.specs.Claims.{Executed, reached, ExecutedImage, InstalledBefore}
 use Rattle.upgrade.specs.Demand3.{Before, made, device_then, gateway_then, held_then, Ready, start, Demand3, Upgrade, RepeatsAgree, InstallLength}
@@ -273,6 +273,7 @@ module _ (b : Before) (ready : Ready b) where
           long = ap₂ (λ (f : Fields) (last : ℕ). f.size * (f.total - 1) + last) same.0 same.1 ∙ whole.long;
         })
     answered-whole (at_device (asked reply)) r m x = absurd x
+    answered-whole (at_device (digest_given digest)) r m x = elim x [ ]
     answered-whole (at_device (finished code)) r m x = absurd x
     answered-whole (at_gateway c) r m x = absurd x
 

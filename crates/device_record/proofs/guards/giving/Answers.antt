@@ -1,0 +1,11 @@
+-- `device_record::guards::giving` meets its contract: the chain of tests is the list of refusals. Assumes nothing.
+use Rattle.basis.specs.Choice.{refusal}
+use Rattle.device_record.proofs.guards.giving.Goals as goal
+
+pub returns : goal.returns
+unfolding refusal
+returns c = rw (
+  c.unless-2.ensures,
+  c.unless.ensures,
+  c.record_ok-kept.ensures,
+)
