@@ -2,6 +2,8 @@
 // call is refused for before anything is done.
 #![tactic(auto)]
 
+pub mod laws;
+
 ghost use Rattle.std.specs.Prelude.{◌≡◌};
 ghost use Rattle.device_record.specs.Record.{new_of};
 

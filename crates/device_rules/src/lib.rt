@@ -1,6 +1,10 @@
-// The device's rules ("head" in 01): what each call leaves, in 01's order, with cases and claims. The
-// code is in device, which is proved equal to them; here are only the structs that it answers with.
+// The device's rules: what each call leaves, with cases and claims, each the contract of a function. The code is
+// in device, which is proved equal to them; here are otherwise only the structs that it answers with.
 #![tactic(auto)]
+
+ghost use Rattle.device_rules.specs.Cases.{DeviceCases};
+ghost use Rattle.device_rules.specs.DecisionCases.{DecisionCases};
+ghost use Rattle.device_rules.specs.RefusedMaking.{RefusedMaking};
 
 use device_record::Device;
 
@@ -25,3 +29,21 @@ pub struct Finished {
     pub number: u8,
     pub device: Device,
 }
+
+/// The device's calls leave what the rows of `DeviceCases` say: each message in each phase, what is
+/// said when asked, the installer's end, digests, and the refusals in their order.
+pub fn device_cases_hold()
+    ensures { DeviceCases }
+{}
+
+/// What the device decides of announcements, fragments and completed packages is what the rows of
+/// `DecisionCases` say.
+pub fn decision_cases_hold()
+    ensures { DecisionCases }
+{}
+
+/// Every call with the record of a refused making answers a number other than 0, and changes
+/// nothing; the installer's end and a digest are answered 29.
+pub fn refused_making_is_unusable()
+    ensures { RefusedMaking }
+{}

@@ -13,7 +13,7 @@ use Rattle.exports.specs.Exports.{Left}
 abbrev pub digest_length : ℕ
 digest_length = 16
 
--- a state in its buffer (`stateKept`); one that is too short is refused as such a record is
+-- a state in its buffer (`state_kept`); one that is too short is refused as such a record is
 abbrev pub left : Kept → Left
 left k = record { answer = k.number; bytes = k.buffer }
 

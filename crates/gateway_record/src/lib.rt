@@ -2,6 +2,8 @@
 // refused for before anything is done; and the package in fragments.
 #![tactic(auto)]
 
+pub mod laws;
+
 ghost use Rattle.std.specs.Prelude.{◌≡◌};
 ghost use Rattle.gateway_record.specs.Record.{start_of};
 

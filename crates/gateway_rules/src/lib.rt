@@ -1,6 +1,10 @@
-// The gateway's rules (platform): what each call leaves, in 01's order, with cases and claims. The code
-// is in gateway, which is proved equal to them; here is only the struct that it answers with.
+// The gateway's rules: what each call leaves, with cases and claims, each the contract of a function. The code is
+// in gateway, which is proved equal to them; here is otherwise only the struct that it answers with.
 #![tactic(auto)]
+
+ghost use Rattle.gateway_rules.specs.Cases.{GatewayCases};
+ghost use Rattle.gateway_rules.specs.DecisionCases.{GatewayDecisionCases};
+ghost use Rattle.gateway_rules.specs.RefusedStart.{RefusedStart};
 
 use gateway_record::Gateway;
 
@@ -12,3 +16,21 @@ pub struct Answer {
     pub length: usize,
     pub gateway: Gateway,
 }
+
+/// The gateway's calls leave what the rows of `GatewayCases` say: each message in each phase, what
+/// is said when asked, and the refusals in their order.
+pub fn gateway_cases_hold()
+    ensures { GatewayCases }
+{}
+
+/// What the gateway decides of answers, requests and reports is what the rows of
+/// `GatewayDecisionCases` say.
+pub fn gateway_decision_cases_hold()
+    ensures { GatewayDecisionCases }
+{}
+
+/// Every call with the record of a refused start answers a number other than 0, and changes
+/// nothing.
+pub fn refused_start_is_unusable()
+    ensures { RefusedStart }
+{}

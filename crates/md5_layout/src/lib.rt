@@ -2,6 +2,8 @@
 // the layout). Any bytes are some state.
 #![tactic(auto)]
 
+pub mod laws;
+
 ghost use Rattle.std.specs.Prelude.{◌≡◌, ◌+◌, ◌≤◌, length};
 ghost use Rattle.basis.specs.Bytes.{dword_bytes, part, over, patched};
 ghost use Rattle.md5_layout.specs.Layout.{words_at, words_bytes, state_at, state_bytes, state_length, state_kept};

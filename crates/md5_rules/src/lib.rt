@@ -1,6 +1,10 @@
-// MD5 (RFC 1321; 02, 2026-05) as definitions, over bytes as a whole and in pieces, with cases and claims. The code is in
-// md5_rounds and md5, which are proved equal to them; here are only the structs that these share.
+// MD5 (RFC 1321) as definitions, over bytes as a whole and in pieces, with cases and claims, each the contract of a
+// function. The code is in md5_rounds and md5_digest, which are proved equal to them; here are otherwise only the
+// structs that these share.
 #![tactic(auto)]
+
+ghost use Rattle.md5_rules.specs.Cases.{Md5Cases};
+ghost use Rattle.md5_rules.specs.Stream.{AnyCut};
 
 // The four words, A to D.
 #[derive(Clone, Copy)]
@@ -19,3 +23,14 @@ pub struct Md5 {
     pub count: u64,
     pub block: [u8; 64],
 }
+
+/// Padding, length field, words, constants and digests are what the rows of `Md5Cases` say, RFC
+/// 1321's suite among them.
+pub fn md5_cases_hold()
+    ensures { Md5Cases }
+{}
+
+/// Bytes fed in any pieces have the digest of the bytes as a whole.
+pub fn any_cut_has_one_digest()
+    ensures { AnyCut }
+{}

@@ -2,6 +2,8 @@
 // stretch that was passed over.
 #![tactic(auto)]
 
+pub mod laws;
+
 ghost use Rattle.std.specs.Prelude.{◌≡◌, ◌+◌, ◌-◌, ◌≤◌, length};
 ghost use Rattle.capture_rules.specs.Capture.{capture_most};
 ghost use Rattle.capture_rules.specs.Mending.{part_at};

@@ -3,6 +3,7 @@
 #![tactic(auto)]
 
 mod announcement;
+pub mod laws;
 mod ranges;
 mod recognition;
 mod version;
@@ -38,8 +39,8 @@ impl Fields {
     pub const TOTAL_MAX: u16 = 65535;
 }
 
-// A message toward the device ("head" in 01). An enum holds no array: the version text of an
-// announcement and the data of a fragment stand beside it.
+// A message toward the device. The version text of an announcement and the data of a fragment stand
+// beside it.
 #[derive(Clone, Copy)]
 pub enum ToDevice {
     Refused(u8),

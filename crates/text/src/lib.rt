@@ -3,6 +3,7 @@
 #![tactic(auto)]
 
 mod hex;
+pub mod laws;
 
 ghost use Rattle.std.specs.Prelude.{◌≡◌, ◌+◌, ◌-◌, ◌%◌, leb, length};
 ghost use Rattle.text.specs.Text.{last_five, decimal, number_text, text_at};

@@ -1,4 +1,4 @@
--- The number by which `textFrom` recurses cuts nothing off: more turns than the bytes of a capture print nothing more. Assumes nothing.
+-- The number by which `text_from` recurses cuts nothing off: more turns than the bytes of a capture print nothing more. Assumes nothing.
 use Prim.Native.Nat.{ℕ, zero, suc, ◌+◌, ◌≤◌, ◌<◌}
 use native.Mathlib.Nat.{suc-add}
 use native.Mathlib.Omega.{arith}

@@ -21,7 +21,7 @@ unfoldable pub digests_given : (e : Ends) → Both e → List (List ℕ) → Bot
 digests_given e = after (λ w digest. next e w (at_device (digest_given digest)))
 
 -- Both facts are given as `affirmed`: true over records, any byte that means yes over hosts. A call made in the state w is lent the reply
--- buffer `deviceReply w` or `gatewayReply w`: each call may get another.
+-- buffer `device_reply w` or `gateway_reply w`: each call may get another.
 module _ (e : Ends) (affirmed : e.Fact) (device_reply gateway_reply : Both e → List ℕ) where
   -- messages that arrive at an end; condition 0
   unfoldable pub arrive_at_device : Both e → List (List ℕ) → Both e

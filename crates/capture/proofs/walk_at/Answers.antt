@@ -1,4 +1,4 @@
--- `capture::walk_at` meets its contract: each arm is one case of `placeAfter`. A record that is found ends within the capture, so
+-- `capture::walk_at` meets its contract: each arm is one case of `place_after`. A record that is found ends within the capture, so
 -- that its end fits. Assumes nothing.
 use native.Mathlib.Omega.{arith}
 use mathlib.Core.Path.{refl, sym, ◌∙◌, ap}
