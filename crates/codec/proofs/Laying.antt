@@ -6,9 +6,7 @@ use mathlib.Core.List.{List, ◌++◌, append-nil}
 use lib.ListN.{length, take, length-append, length-take}
 use lib.Seq.{take_all}
 use Rattle.basis.specs.Bytes.{word_bytes}
-use Rattle.message.specs.declared.ToDevice
 use Rattle.message.specs.declared.ToDevice.{ToDevice}
-use Rattle.message.specs.declared.ToGateway
 use Rattle.message.specs.declared.ToGateway.{ToGateway}
 use Rattle.codec.specs.declared.parts.Parts.{Parts}
 use Rattle.message.specs.Messages.{Table, to_device, to_gateway, Reading, device_row, gateway_row}

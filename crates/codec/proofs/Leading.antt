@@ -11,9 +11,7 @@ use mir.Val.{has_key}
 use types.Run.{OneOf, miss}
 use denote.Enum.Declared.{Record, declared, tag_of}
 use borrow.Enum.Known.{ValuesAt, at, at_one, lives_at}
-use Rattle.message.specs.declared.ToDevice
 use Rattle.message.specs.declared.ToDevice.{ToDevice}
-use Rattle.message.specs.declared.ToGateway
 use Rattle.message.specs.declared.ToGateway.{ToGateway}
 use Rattle.message.specs.contracts.ToDevice as to_device
 use Rattle.message.specs.contracts.ToGateway as to-gateway

@@ -1,7 +1,6 @@
 -- What the code's answers mean, where version text stands in a message, and what is known of a reading. Assumes nothing.
 use Rattle.std.specs.Prelude.{ℕ, ◌≡◌, true, List}
 use Rattle.message.specs.Messages.{Table, Reading, found, refused}
-use Rattle.message.specs.declared.ToGateway
 use Rattle.message.specs.declared.ToGateway.{ToGateway}
 use Rattle.codec.specs.declared.Written.{Written}
 use Rattle.codec.specs.Codec.{Sent}

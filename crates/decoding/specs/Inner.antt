@@ -1,17 +1,13 @@
 -- What serves the code's own functions: what is shown of a message, as they hold it, and what each of them leaves. Assumes nothing.
 use Rattle.std.specs.Prelude.{ℕ, ◌+◌, ◌≤◌, ◌≡◌, Bool, true, false, List, [], ◌++◌, eqb, length}
 use Rattle.basis.specs.Bytes.{patched}
-use Rattle.message.specs.declared.ToDevice
 use Rattle.message.specs.declared.ToDevice.{ToDevice}
-use Rattle.message.specs.declared.ToGateway
 use Rattle.message.specs.declared.ToGateway.{ToGateway}
 use Rattle.capture_rules.specs.Capture.{Item, place_after, goes_on}
 use Rattle.text.specs.Ascii.{ascii}
 use Rattle.text.specs.Answers.{Emitted}
 use Rattle.decoding.specs.declared.Turn.{Turn}
-use Rattle.decoding.specs.declared.shown.Name
 use Rattle.decoding.specs.declared.shown.Name.{Name}
-use Rattle.decoding.specs.declared.shown.Tail
 use Rattle.decoding.specs.declared.shown.Tail.{Tail}
 use Rattle.decoding.specs.declared.shown.Shown.{Shown}
 use Rattle.decoding_rules.specs.Line.{optional, result_text, version_text, package_text, index_text, data_text, reason_text, end}

@@ -3,7 +3,6 @@ use Prim.Native.Nat.{ℕ, ◌+◌}
 use mathlib.Core.Path.{◌≡◌, ◌∙◌, ap, subst}
 use mathlib.Core.List.{List}
 use borrow.Enum.Known.{ValuesAt}
-use Rattle.message.specs.declared.ToDevice
 use Rattle.message.specs.declared.ToDevice.{ToDevice}
 use Rattle.message.specs.contracts.ToDevice.{the_parts as parts, enum}
 use Rattle.message.specs.Messages.{to_device}

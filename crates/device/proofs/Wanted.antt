@@ -10,7 +10,6 @@ use Rattle.basis.proofs.Choosing.{pick_yes, pick_no, pick_of}
 use Rattle.bitmap.specs.Bitmap.{lowest_missing}
 use Rattle.message.specs.Messages.{download_report, found, refused}
 use Rattle.message.specs.Enums.{gateway_message}
-use Rattle.message.specs.declared.ToGateway
 use Rattle.message.specs.declared.ToGateway.{ToGateway}
 use Rattle.device_record.specs.declared.Device.{Device}
 use Rattle.device_record.specs.Record.{loading, loaded, failed, reporting}

@@ -9,7 +9,6 @@ use borrow.Author.Tests.{eq-eqb, ne_eqb}
 use Rattle.basis.specs.Choice.{pick}
 use Rattle.basis.specs.Numbers.{no_use}
 use Rattle.basis.proofs.Choosing.{pick_yes, pick_no}
-use Rattle.message.specs.declared.ToGateway
 use Rattle.message.specs.declared.ToGateway.{ToGateway}
 use Rattle.message.specs.contracts.ToGateway.{the_parts as parts, enum}
 use Rattle.message.specs.Messages.{fragment, download_reply, result_reply}

@@ -1,8 +1,6 @@
 -- What the code's enums mean: an enum holds numbers alone, and version text and fragment data stand beside it. Assumes nothing.
 use Rattle.std.specs.Prelude.{ℕ, Bool, false, List}
-use Rattle.message.specs.declared.ToDevice
 use Rattle.message.specs.declared.ToDevice.{ToDevice}
-use Rattle.message.specs.declared.ToGateway
 use Rattle.message.specs.declared.ToGateway.{ToGateway}
 use Rattle.message.specs.Messages.{DeviceMessage, GatewayMessage, Table, Reading, found, refused}
 

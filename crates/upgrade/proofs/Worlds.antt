@@ -10,7 +10,6 @@ use Rattle.codec.specs.Codec.{read_of}
 use Rattle.round_trips.proofs.WrittenRead.{device_told, gateway_told}
 use Rattle.device_record.specs.Record.{loading}
 use Rattle.device_rules.proofs.Views.{hears, installs, spoken, does_other}
-use Rattle.gateway_record.specs.Record as gateway
 use Rattle.upgrade.specs.Calls.{DeviceCall, given, asked, finished, digest_given, GatewayCall, at_device, at_gateway, next, May}
 use Rattle.upgrade.specs.Records.{World, records, device_does}
 use Rattle.upgrade.specs.Claims.{Executed, Installed}

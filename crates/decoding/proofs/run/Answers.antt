@@ -1,5 +1,4 @@
 -- `decoding::run` meets its contract. The loop's invariant says what is left to print (`Underway`). Assumes nothing.
-use Prim.Native.Nat.{◌-◌}
 use native.Mathlib.Omega.{arith}
 use mathlib.Core.Path.{◌∙◌}
 use Rattle.decoding.proofs.Runs.{begins, line_room, finishes, stops, later, goes_on_lem}

@@ -1,5 +1,4 @@
 -- `mending::run` meets its contract. The loop's invariant says what is left to write (`Underway`). Assumes nothing.
-use Prim.Native.Nat.{◌-◌}
 use native.Mathlib.Omega.{arith}
 use Rattle.mending.proofs.Runs.{begins, finishes, record_room, line_room, later, again}
 use Rattle.mending.proofs.run.Goals as goal

@@ -1,6 +1,5 @@
 -- `transcript::run` meets its contract. The loop's invariant says what is left to print (`Reached`), and that no buffer changed its length. Assumes nothing.
 use mathlib.Core.Path.{refl, sym, ◌∙◌}
-use Prim.Native.Nat.{◌-◌}
 use native.Mathlib.Omega.{arith}
 use Rattle.transcript.proofs.Runs.{begins, over, turn_room, stops, goes_on_lem}
 use Rattle.transcript.proofs.run.Goals as goal

@@ -1,7 +1,6 @@
 -- `capture::mend::first_sound` meets its contract: the first sound place that the loop comes to, else the end. Assumes nothing.
 use Rattle.capture_rules.proofs.Mends.{sound_here, sound_later, sound_none}
 use mathlib.Core.Path.{sym, ◌∙◌}
-use Prim.Native.Nat.{◌-◌}
 use Rattle.capture.proofs.mend.first_sound.Goals as goal
 
 pub is_sound-requires : goal.is_sound-requires

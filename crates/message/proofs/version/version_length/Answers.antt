@@ -7,7 +7,6 @@ use borrow.Author.Rules.{rules}
 use lib.ListN.{length}
 use native.Mathlib.Omega.{arith}
 use mathlib.Core.Path.{◌≡◌, sym, ◌∙◌}
-use Prim.Native.Nat.{◌-◌}
 use Rattle.message.proofs.version.version_length.Goals as goal
 
 pub loop-i-init : goal.loop-i-init

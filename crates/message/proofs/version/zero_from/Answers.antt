@@ -4,7 +4,6 @@ use borrow.Author.Rules.{rules}
 use lib.ListN.{length}
 use native.Mathlib.Omega.{arith}
 use mathlib.Core.Path.{◌≡◌, sym, ◌∙◌}
-use Prim.Native.Nat.{◌-◌}
 use Rattle.message.proofs.version.zero_from.Goals as goal
 
 pub returns-then-version-i-ne0 : goal.returns-then-version-i-ne0

@@ -1,5 +1,4 @@
 -- `text::hex::put_bytes` meets its contract. The loop's invariant: what is left to write is the hex of the bytes that are left. Assumes nothing.
-use Prim.Native.Nat.{◌-◌}
 use native.Mathlib.Omega.{arith}
 use Rattle.text.proofs.HexFigures.{hex_room, hex_onward, hex_complete}
 use Rattle.text.proofs.Emitting.{whole}
