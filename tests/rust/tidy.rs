@@ -7,12 +7,14 @@ use std::{env, fs, io, process};
 
 const LONGEST: usize = 160;
 
-/// The Rattle and antt files below a folder.
+/// The Rattle and antt files below a folder, but for the copies that the prover keeps in each crate's out/.
 fn sources(folder: &Path, found: &mut Vec<PathBuf>) -> io::Result<()> {
     for entry in fs::read_dir(folder)? {
         let path = entry?.path();
         if path.is_dir() {
-            sources(&path, found)?;
+            if !path.ends_with("out") {
+                sources(&path, found)?;
+            }
         } else if path.extension().map_or(false, |e| e == "antt" || e == "rt") {
             found.push(path);
         }
@@ -44,11 +46,11 @@ fn words(text: &str) -> HashSet<&str> {
     words
 }
 
-/// Whether a name is used: an operator such as `_≡_` by what stands between its places.
+/// Whether a name is used: an operator such as `◌≡◌` by what stands between its places.
 fn is_used(name: &str, words: &HashSet<&str>) -> bool {
     words.contains(name)
-        || name.contains('_')
-            && name.split('_').filter(|part| !part.is_empty()).all(|part| words.contains(part))
+        || name.contains('◌')
+            && name.split('◌').filter(|part| !part.is_empty()).all(|part| words.contains(part))
 }
 
 /// The names that a use line brings in.
