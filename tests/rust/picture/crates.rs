@@ -36,7 +36,9 @@ fn read(file: &str) -> Result<Vec<Crate>, String> {
             is_program = !crates.is_empty();
             continue;
         }
-        let (name, used) = line.split_once(':').ok_or(format!("crates.txt: no colon in '{}'", line))?;
+        let (head, used) = line.split_once(':').ok_or(format!("crates.txt: no colon in '{}'", line))?;
+        // Behind the name may stand what kind of library it is.
+        let name = head.split_whitespace().next().ok_or(format!("crates.txt: no name in '{}'", line))?;
         let number = |used: &str| crates.iter().position(|before| before.name == used);
         let uses = used.split_whitespace().filter_map(number).collect();
         crates.push(Crate { name: name.to_string(), uses, is_program });
