@@ -43,6 +43,25 @@ add_packages() {
     DEBIAN_FRONTEND=noninteractive apt-get install -y "$@" >&2
 }
 
+# bring FILE PLACE MODE: copies what was built to where all else takes it from. A file that is the same stays: what was made
+# from it is then newer still.
+bring() {
+    writable "$(dirname "$2")"
+    cmp -s "$1" "$2" || install -m "$3" "$1" "$2"
+}
+
+# build_archive: proves the library, builds its archive and brings it. rt works in a crate's folder, and builds first what
+# is below it.
+build_archive() {
+    (cd crates/pcp && rt lib) </dev/null && bring crates/pcp/out/libpcp.a "$archive" 644
+}
+
+# build_program NAME: proves a program, builds it and brings it. rt runs it too: on an empty capture, where it writes
+# nothing. What rt says goes to standard error.
+build_program() {
+    (cd "crates/$1" && rt run) </dev/null >/dev/null && bring "crates/$1/out/$1" "target/bin/$1" 755
+}
+
 # for_each MOST COMMAND ARGUMENT..: runs the command on each argument, so many at once; $failed is how many failed. Each
 # job is waited for by its id, the oldest first: `wait -n` may take one of which nobody then learns how it ended.
 for_each() {
@@ -97,7 +116,7 @@ tool() {
     fi
     {
         need rustc
-        [ -f "$archive" ] || rt staticlib pcp
+        [ -f "$archive" ] || build_archive
         wrapper
         rust_host "tools/$1/main.rs" "$1"
     } </dev/null >&2

@@ -12,15 +12,15 @@ tell_if_longer() {
     fi
 }
 
-# launch PROGRAM: runs a built program on standard input, and ends with its exit status. A Rattle
-# program cannot choose that: where it tells a failure on standard error, in a line that begins with
-# 'PROGRAM: ', or a refusal, in a line that is its number alone, the status is 1. Other lines are
-# passed on, and change nothing; where they cannot be, the status is 1 too.
+# launch PROGRAM: runs a built program on standard input, and ends with its exit status. The programs
+# themselves end with 0 once they have told what failed: where they tell a failure on standard error,
+# in a line that begins with 'PROGRAM: ', or a refusal, in a line that is its number alone, the status
+# is 1. Other lines are passed on, and change nothing; where they cannot be, the status is 1 too.
 launch() {
     local program=$1 binary errors status=0
     binary=$(dirname "${BASH_SOURCE[0]}")/../target/bin/$program
     if [ ! -x "$binary" ]; then
-        echo "$program: not built; 'rt check $program' builds it" >&2
+        echo "$program: not built; 'scripts/build $program' builds it" >&2
         exit 1
     fi
     tell_if_longer "$program"

@@ -1,5 +1,5 @@
 //! Links the library's archive, libpcp.a: from the folder that the variable PCP_ARCHIVE_FOLDER names, otherwise from
-//! where `rt staticlib pcp` puts it. A path that is not absolute begins at this folder.
+//! where `scripts/build archive` puts it. A path that is not absolute begins at this folder.
 
 use std::env;
 use std::path::PathBuf;
@@ -13,7 +13,7 @@ fn main() {
     let folder = crate_folder.join(env::var_os(VARIABLE).unwrap_or_else(|| USUAL_FOLDER.into()));
     let archive = folder.join(ARCHIVE);
     if !archive.is_file() {
-        panic!("no {}: run `rt staticlib pcp`, or name {ARCHIVE}'s folder in {VARIABLE}", archive.display());
+        panic!("no {}: run `scripts/build archive`, or name {ARCHIVE}'s folder in {VARIABLE}", archive.display());
     }
     println!("cargo:rerun-if-env-changed={VARIABLE}");
     println!("cargo:rerun-if-changed={}", archive.display());
