@@ -273,9 +273,9 @@
 //!
 //! # Building
 //!
-//! `scripts/build archive`, at the repository's root, proves and writes the archive, for x86-64 Linux. A program names
-//! this folder as the path of its dependency `pcp`; cargo then finds the archive, or where `PCP_ARCHIVE_FOLDER` says
-//! (see `build.rs`). `upgrade.rs` is a whole program of both hosts:
+//! `scripts/build archive`, at the repository's root, proves and writes the archive, for x86-64 Linux on processors of
+//! the level x86-64-v2 or above. A program names this folder as the path of its dependency `pcp`; cargo then finds the
+//! archive, or where `PCP_ARCHIVE_FOLDER` says (see `build.rs`). `upgrade.rs` is a whole program of both hosts:
 //!
 //! ```text
 //! cargo run --manifest-path hosts/rust/Cargo.toml --example upgrade -- PACKAGE [SEED]
