@@ -75,7 +75,8 @@ head_of capture at =
     let three : suc (suc (suc at)) ≡ at + 2 + 1 = omega arith in
     λ i. get_or capture at 0 ∷ get_or capture (one i) 0 ∷ get_or capture (two i) 0 ∷ get_or capture (three i) 0 ∷ []
 
-words : (a b c d m n : ℕ) (rest : List ℕ) → b < 256 → d < 256 → a * 256 + b ≡ m → c * 256 + d ≡ n → a ∷ b ∷ c ∷ d ∷ rest ≡ word_bytes m ++ (word_bytes n ++ rest)
+words : (a b c d m n : ℕ) (rest : List ℕ) → b < 256 → d < 256 → a * 256 + b ≡ m → c * 256 + d ≡ n
+    → a ∷ b ∷ c ∷ d ∷ rest ≡ word_bytes m ++ (word_bytes n ++ rest)
 words a b c d m n rest hb hd em en =
     let pa : a ≡ m / 256 = omega arith in
     let pb : b ≡ m % 256 = omega arith in

@@ -71,7 +71,8 @@ module _ {to_device : Bool} {start count : ℕ} where
   no-fault : {A : Type 0} {number : ℕ} → Item.fault number ≡ Item.found to_device start count → A
   no-fault e = let z : ◌≡◌ {A = ℕ} 0 1 = cc in absurd (omega arith)
 
-  whole : (capture : List ℕ) (at mark n : ℕ) → mark_at capture at ≡ mark → length_at capture at ≡ n → wrong_mark mark ≡ false → header_length + n ≤ left capture at
+  whole : (capture : List ℕ) (at mark n : ℕ) → mark_at capture at ≡ mark → length_at capture at ≡ n → wrong_mark mark ≡ false
+      → header_length + n ≤ left capture at
       → Item.found (eqb mark (mark_of true)) (at + header_length) n ≡ Item.found to_device start count → Found capture at to_device start count
   whole capture at mark n read counted right fits e =
       let d : eqb mark (mark_of true) ≡ to_device = cc in

@@ -49,7 +49,8 @@ pub header_is : (to_device : Bool) (count mark : ℕ) (first second : List ℕ) 
 header_is to_device count mark first second e₁ e₂ e₃ = rw (e₂, e₃, e₁) refl
 
 pub pieces : (to_device : Bool) (message buffer head first second : List ℕ) (at : ℕ) → at ≤ length buffer
-    → head ≡ word_bytes (mark_of to_device) ++ word_bytes (length message) → first ≡ patched at head buffer → second ≡ patched (at + header_length) message first
+    → head ≡ word_bytes (mark_of to_device) ++ word_bytes (length message) → first ≡ patched at head buffer
+    → second ≡ patched (at + header_length) message first
     → ◌≡◌ {A = Wrote} (record { number = handled; at = at + header_length + length message; buffer = second }) (laid to_device message buffer at)
 unfolding record_bytes
 pieces to_device message buffer head first second at h e₁ e₂ e₃ =

@@ -94,7 +94,8 @@ data Outcome (rs : List (Bool × List ℕ)) (buffer : List ℕ) (at : ℕ) (w : 
   stopped : w.number ≡ does_not_fit → (Short rs → length buffer < at + length (written rs)) → Outcome rs buffer at w
 
 -- behind a refusal nothing is written
-stays : (rs : List (Bool × List ℕ)) (buffer : List ℕ) (at : ℕ) → (write_all rs (record { number = does_not_fit; at = at; buffer = buffer })).number ≡ does_not_fit
+stays : (rs : List (Bool × List ℕ)) (buffer : List ℕ) (at : ℕ)
+    → (write_all rs (record { number = does_not_fit; at = at; buffer = buffer })).number ≡ does_not_fit
 unfolding write_all pick
 stays [] buffer at = refl
 stays (r ∷ rs) buffer at = refl
@@ -170,7 +171,8 @@ again : (rs : List (Bool × List ℕ)) → ReadBack rs (written rs)
 unfolding reads_to_end parts_of
 again rs = record { to_end = (all_again rs).ended; same = sym (mended_capture.same_records (written rs) (all_again rs).ended) ∙ (all_again rs).same }
 
-read_all : (rs : List (Bool × List ℕ)) (buffer : List ℕ) → (write_all rs (begun buffer)).number ≡ handled → ReadBack rs (written_in (write_all rs (begun buffer)))
+read_all : (rs : List (Bool × List ℕ)) (buffer : List ℕ) → (write_all rs (begun buffer)).number ≡ handled
+    → ReadBack rs (written_in (write_all rs (begun buffer)))
 read_all rs buffer n = by (outcome rs buffer 0 (omega arith))
   where
     by : Outcome rs buffer 0 (write_all rs (begun buffer)) → ReadBack rs (written_in (write_all rs (begun buffer)))
@@ -207,7 +209,8 @@ writing =
       no_room = λ to_device message buffer at none.
           by_room to_device message buffer at (λ w. w.number ≡ does_not_fit) (λ fit. not_both to_device message buffer at fit none) (λ _. refl);
       only_there = λ to_device message buffer at.
-          by_room to_device message buffer at (λ w. w.number ≡ does_not_fit → NoRoom to_device message buffer at) (λ _ n. absurd (omega arith)) (λ none _. none);
+          by_room to_device message buffer at (λ w. w.number ≡ does_not_fit → NoRoom to_device message buffer at) (λ _ n. absurd (omega arith))
+          (λ none _. none);
       read_back = read_all;
       given_back = λ capture buffer bytes e l.
           write_all_lem capture buffer bytes e (omega arith)

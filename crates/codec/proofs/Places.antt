@@ -57,7 +57,8 @@ module _ (m : List ℕ) (code : ℕ) (e : code ≡ get_or m 3 0) where
 
   -- ---- toward the gateway
 
-  pub gateway_query : (result : ℕ) → code ≡ 19 → result ≡ get_or m 8 0 → GatewayMessage.query_reply result (part m 9 16) ≡ gateway_fields (get_or m 3 0) (drop 8 m)
+  pub gateway_query : (result : ℕ) → code ≡ 19 → result ≡ get_or m 8 0
+      → GatewayMessage.query_reply result (part m 9 16) ≡ gateway_fields (get_or m 3 0) (drop 8 m)
   unfolding gateway_fields pick
   gateway_query result k p = rw (← e, k, p) (simp (part_drop, get_or-drop))
 

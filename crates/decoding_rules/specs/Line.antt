@@ -6,7 +6,8 @@ use Rattle.basis.specs.Numbers.{bad_start, bad_version, bad_code, bad_check, bad
 use Rattle.basis.specs.Bytes.{word_bytes}
 use Rattle.message.specs.Version.{front}
 use Rattle.message.specs.Messages.{DeviceMessage, query, announce, fragment, download_reply, execute, result_reply, GatewayMessage, query_reply}
-use Rattle.message.specs.Messages.{announce_reply, fragment_request, download_report, execute_reply, result_report, to_device, to_gateway, Reading, found, refused}
+use Rattle.message.specs.Messages.{announce_reply, fragment_request, download_report, execute_reply, result_report, to_device, to_gateway, Reading}
+use Rattle.message.specs.Messages.{found, refused}
 use Rattle.codec.specs.Codec.{read_of}
 use Rattle.text.specs.Text.{newline, decimal, hex}
 use Rattle.text.specs.Ascii.{ascii}

@@ -4,7 +4,8 @@ use Rattle.basis.specs.Choice.{pick, refusal, one_of}
 use Rattle.basis.specs.Bytes.{part, same, over, patched}
 use Rattle.bitmap.specs.Bitmap.{marked, mark, cleared, missing_from, lowest_missing}
 use Rattle.checksum.specs.Check.{doubled, entry_of, step, register, check_of, zeroed, message_check}
-use Rattle.md5_rules.specs.Md5.{padding_of, padded, mix_f, mix_g, mix_h, mix_i, sines, block_word, step as md5-step, steps, rounds, increased, compressed, blocks}
+use Rattle.md5_rules.specs.Md5.{padding_of, padded, mix_f, mix_g, mix_h, mix_i, sines, block_word, step as md5-step, steps, rounds, increased}
+use Rattle.md5_rules.specs.Md5.{compressed, blocks}
 use Rattle.md5_rules.specs.Md5.{digest_of, md5_of}
 use Rattle.message.specs.Limits.{size_ok, total_ok, is_word}
 use Rattle.message.specs.Version.{version_character, front, all_zero, good_version}

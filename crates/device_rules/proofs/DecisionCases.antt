@@ -4,7 +4,8 @@ use Rattle.basis.specs.Choice.{pick, refusal, one_of}
 use Rattle.basis.specs.Bytes.{same}
 use Rattle.checksum.specs.Check.{doubled, entry_of, step, register, check_of}
 use Rattle.bitmap.specs.Bitmap.{marked}
-use Rattle.md5_rules.specs.Md5.{padding_of, padded, mix_f, mix_g, mix_h, mix_i, sines, block_word, step as md5-step, steps, rounds, increased, compressed, blocks}
+use Rattle.md5_rules.specs.Md5.{padding_of, padded, mix_f, mix_g, mix_h, mix_i, sines, block_word, step as md5-step, steps, rounds, increased}
+use Rattle.md5_rules.specs.Md5.{compressed, blocks}
 use Rattle.md5_rules.specs.Md5.{digest_of, md5_of}
 use Rattle.device_record.specs.Record.{holding, map_bytes}
 use Rattle.device_rules.specs.Decisions.{announce_result, same_fields, resumes, fragment_length, repeat_refusal, fragment_refusal}

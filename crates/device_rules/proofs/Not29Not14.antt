@@ -18,7 +18,8 @@ use Rattle.bitmap.specs.Bitmap.{lowest_missing}
 use Rattle.device_rules.specs.declared.Finished.{Finished}
 use Rattle.device_rules.specs.declared.DigestAnswer.{DigestAnswer}
 use Rattle.device_rules.specs.Rules as rules
-use Rattle.device_rules.specs.Rules.{After, on_query, on_announce, on_fragment, on_download_reply, on_execute, on_result_reply, begin, store, handle, receive_of}
+use Rattle.device_rules.specs.Rules.{After, on_query, on_announce, on_fragment, on_download_reply, on_execute, on_result_reply, begin, store, handle}
+use Rattle.device_rules.specs.Rules.{receive_of}
 use Rattle.device_rules.specs.Rules.{wanted}
 use Rattle.device_rules.specs.Rules.{next_message_of, install_finished_of, give_digest_of}
 use Rattle.bitmap.proofs.Bitmaps.{lowest_exists}

@@ -326,7 +326,8 @@ demand_1 =
           by_cases (Unsaid to_gateway reply) (λ _. device-ask-refused (device_at bytes) image map reply) (λ _ h. (omega arith, refl));
       device_install_finished = λ bytes code b.
           by_cases (Unkept bytes)
-          (λ t h. ap (device_kept bytes) (finished_returned (device_at bytes) code (λ z. h (omega arith))) ∙ device_back bytes b (leb-true _ _ t)) (λ _ h. refl);
+          (λ t h. ap (device_kept bytes) (finished_returned (device_at bytes) code (λ z. h (omega arith))) ∙ device_back bytes b (leb-true _ _ t))
+          (λ _ h. refl);
       device_give_digest = λ bytes digest b.
           by_cases (Unkept bytes)
           (λ t. by_cases (Unkept bytes)

@@ -9,7 +9,8 @@ use Rattle.exports.specs.Boundary.{Short}
 use Rattle.exports.proofs.ExportLaws.{too_short}
 
 pub short_refused : Short
-unfolding device_new_of device_receive_of device_next_message_of device_install_finished_of device_give_digest_of gateway_start_of gateway_receive_of gateway_next_message_of
+unfolding device_new_of device_receive_of device_next_message_of device_install_finished_of device_give_digest_of gateway_start_of gateway_receive_of
+    gateway_next_message_of
     md5_new_of md5_feed_of md5_finish_of
 short_refused = record {
   device_new = λ bytes version h. sym (too_short device_length bytes _ _ h);

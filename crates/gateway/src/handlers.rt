@@ -3,7 +3,8 @@
 ghost use Rattle.std.specs.Prelude.{◌≡◌, List, ℕ, ◌≤◌, eqb, length};
 ghost use Rattle.basis.specs.Choice.{pick};
 ghost use Rattle.message.specs.Limits.{gateway_room};
-ghost use Rattle.gateway_rules.specs.Rules.{refuse, on_query_reply, on_announce_reply, on_fragment_request, on_download_report, on_execute_reply, on_result_report};
+ghost use Rattle.gateway_rules.specs.Rules.{refuse, on_query_reply, on_announce_reply, on_fragment_request, on_download_report, on_execute_reply};
+ghost use Rattle.gateway_rules.specs.Rules.{on_result_report};
 ghost use Rattle.gateway_rules.specs.Answers.{after_call};
 ghost use Rattle.gateway_rules.specs.Inner.{Guarded};
 

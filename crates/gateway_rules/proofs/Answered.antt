@@ -11,7 +11,8 @@ use Rattle.message.specs.Messages.{Reading, found, refused, to_device, to_gatewa
 use Rattle.codec.specs.Codec.{read_of, said}
 use Rattle.round_trips.proofs.WrittenRead.{read_refused}
 use Rattle.gateway_record.specs.declared.Gateway.{Gateway}
-use Rattle.gateway_rules.specs.Rules.{After, on_query_reply, on_announce_reply, on_fragment_request, on_download_report, on_execute_reply, on_result_report, handle}
+use Rattle.gateway_rules.specs.Rules.{After, on_query_reply, on_announce_reply, on_fragment_request, on_download_report, on_execute_reply}
+use Rattle.gateway_rules.specs.Rules.{on_result_report, handle}
 use Rattle.gateway_rules.specs.Rules.{receive_of, wanted, next_message_of}
 
 abbrev Other : ℕ → Type 0

@@ -13,7 +13,8 @@ use Rattle.upgrade.specs.Calls.{DeviceCall, given, asked, finished, digest_given
 use Rattle.upgrade.specs.Records.{DeviceEnd, records, World}
 use Rattle.upgrade.proofs.Ends.{device_says, device_number, gateway_says}
 use Rattle.upgrade.specs.Demand3.{device_then, start}
-use Rattle.upgrade.specs.Clean.{Reached, arrive_at_device, arrive_at_gateway, answered_by_device, answered_by_gateway, gateway_asked, device_asked, UntilSilent, silent}
+use Rattle.upgrade.specs.Clean.{Reached, arrive_at_device, arrive_at_gateway, answered_by_device, answered_by_gateway, gateway_asked, device_asked}
+use Rattle.upgrade.specs.Clean.{UntilSilent, silent}
 use Rattle.upgrade.specs.Clean.{spoken, ending, digests_given, CleanStart, SucceedsFrom, CleanRunOf, CleanRunWithDigestsOf}
 use Rattle.upgrade.proofs.CleanAllowed.{reached_start, digest_given_lem, digests_given_lem, gateway_asked_lem, until_silent, at_end}
 use Rattle.upgrade.proofs.CleanRun.{clean_run, clean_run_with_digests}

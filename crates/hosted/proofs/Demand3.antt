@@ -20,11 +20,14 @@ use Rattle.upgrade.specs.Claims.{Executed, Installed, number_of, Ended, Success,
 use Rattle.upgrade.specs.Demand3.{Ready, start, device_then, gateway_then}
 use Rattle.upgrade.proofs.Demand3.{demand_3, repeats_agree, install_length}
 use Rattle.upgrade.proofs.Joined.{joined}
-use Rattle.hosted.specs.Hosts.{DeviceHost, device_host_next, gateway_host_next, hosts, Hosts, Fitting, device_seen, seen, device_call_as, gateway_call_as, call_as}
-use Rattle.hosted.specs.Hosted.{host_made, HostMade, HostedBefore, device_host_then, gateway_host_then, hosted_start, records_before, HostedReady, HostedDemand3}
+use Rattle.hosted.specs.Hosts.{DeviceHost, device_host_next, gateway_host_next, hosts, Hosts, Fitting, device_seen, seen, device_call_as}
+use Rattle.hosted.specs.Hosts.{gateway_call_as, call_as}
+use Rattle.hosted.specs.Hosted.{host_made, HostMade, HostedBefore, device_host_then, gateway_host_then, hosted_start, records_before, HostedReady}
+use Rattle.hosted.specs.Hosted.{HostedDemand3}
 use Rattle.hosted.specs.Hosted.{HostedUpgrade, HostedRepeatsAgree, HostedInstallLength}
 use Rattle.hosted.proofs.Shown.{shown, allowed_shown, Split, split_shown, Headed, head_shown}
-use Rattle.hosted.proofs.Runs.{kept_room, device_room, device_next_lem, device_says_lem, device_number_is, gateway_room, gateway_next_lem, still_fitting, one_call}
+use Rattle.hosted.proofs.Runs.{kept_room, device_room, device_next_lem, device_says_lem, device_number_is, gateway_room, gateway_next_lem}
+use Rattle.hosted.proofs.Runs.{still_fitting, one_call}
 use Rattle.hosted.proofs.Runs.{gateway_number_is, hosted_runs}
 
 -- ---- the two events, of hosts and of the records that they keep
@@ -184,7 +187,8 @@ module _ (b : HostedBefore) (r : HostedReady b) where
 
   pub device_then_lem : (device_length ≤ length (device_host_then b).bytes) × (device_seen (device_host_then b) ≡ device_then (records_before b))
   device_then_lem =
-      let run = shown device_host_next device_next device_seen (device_call_as fact) (λ (h : DeviceHost). device_length ≤ length h.bytes) device_room device_next_lem
+      let run = shown device_host_next device_next device_seen (device_call_as fact) (λ (h : DeviceHost). device_length ≤ length h.bytes) device_room
+      device_next_lem
       b.device_calls (host_made b.device_buffer b.running b.image b.map) (made_room b.device_buffer b.running r.device_made) in (
         run.0,
         run.1 ∙ ap (λ (e : DeviceEnd). after device_next e (map (device_call_as fact) b.device_calls))

@@ -69,7 +69,8 @@ module _ (h : DeviceHost) where
       by_cases (λ (k : Left). device_length ≤ length k.bytes)
       (λ _. by_cases (λ (k : Left). device_length ≤ length k.bytes) (λ _. kept_room device_length _ h.bytes r) (λ _. r)) (λ _. r)
 
-  pub device_next_lem : (c : DeviceCall ℕ) → device_length ≤ length h.bytes → device_seen (device_host_next h c) ≡ device_next (device_seen h) (device_call_as fact c)
+  pub device_next_lem : (c : DeviceCall ℕ) → device_length ≤ length h.bytes
+      → device_seen (device_host_next h c) ≡ device_next (device_seen h) (device_call_as fact c)
   unfolding device_host_does device_does device_receive_of device_install_finished_of
   device_next_lem (given supported pcp condition message reply) r =
       let e = received_is supported pcp condition message reply r in

@@ -37,7 +37,8 @@ unfolding pick refusal one_of qword_at qword_bytes part same over patched double
     gateway_record.start_of gateway_record.record_ok decisions.after_query decisions.serving decisions.fragment_result decisions.install_ending
     gateway.fragment_reply gateway.on_query_reply gateway.on_announce_reply gateway.on_fragment_request gateway.on_download_report gateway.on_execute_reply
     gateway.on_result_report gateway.handle gateway.receive_of gateway.wanted gateway.next_message_of device_does gateway_does held_by held_next held_after
-    device_new_of device_receive_of gateway_start_of gateway_receive_of text_of kept front_bytes device_bytes device_at gateway_bytes gateway_at device_host_does
+    device_new_of device_receive_of gateway_start_of gateway_receive_of text_of kept front_bytes device_bytes device_at gateway_bytes gateway_at
+    device_host_does
     gateway_host_does
 hosted_witnesses =
     record {

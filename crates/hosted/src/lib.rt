@@ -2,7 +2,8 @@
 // claims, each the contract of a function; there is no other code here.
 #![tactic(auto)]
 
-ghost use Rattle.hosted.specs.Hosted.{HostedCleanRun, HostedCleanRunWithDigests, HostedCompletedIsTested, HostedCount, HostedDemand3, HostedInstallLength, HostedRepeatsAgree, HostedRoom, HostedUpgrade};
+ghost use Rattle.hosted.specs.Hosted.{HostedCleanRun, HostedCleanRunWithDigests, HostedCompletedIsTested, HostedCount, HostedDemand3};
+ghost use Rattle.hosted.specs.Hosted.{HostedInstallLength, HostedRepeatsAgree, HostedRoom, HostedUpgrade};
 ghost use Rattle.hosted.specs.Hosts.{HostedAnswers, HostedRuns};
 ghost use Rattle.hosted.specs.Witnesses.{HostedWitnesses};
 

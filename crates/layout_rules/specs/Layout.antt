@@ -54,7 +54,12 @@ gateway_length = 30
 
 unfoldable pub gateway_at : List ℕ → Gateway
 gateway_at b =
-    record { phase = get_or b 0 0; ending = get_or b 1 0; fields = package_fields (part b 2 16) (word_at b 18) (qword_at b 20) (word_at b 28); length = qword_at b 20 }
+    record {
+      phase = get_or b 0 0;
+      ending = get_or b 1 0;
+      fields = package_fields (part b 2 16) (word_at b 18) (qword_at b 20) (word_at b 28);
+      length = qword_at b 20;
+    }
 
 -- ---- after a call
 

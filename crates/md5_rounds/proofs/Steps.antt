@@ -1,6 +1,7 @@
 -- Laws of the rounds: a step's sum in another order, rows of steps one behind the other, and blocks by what is left of the bytes. Assumes
 -- nothing.
-use Rattle.std.proofs.Common.{◌≡◌, ℕ, zero, suc, ◌+◌, ◌-◌, ◌*◌, ◌/◌, ◌%◌, ◌^◌, ◌<◌, ◌≤◌, min, List, [], ◌∷◌, ◌++◌, length, get_or, take, drop, sym, refl, ap, ◌∙◌, ap₂, arith, take-append-drop, drop-drop}
+use Rattle.std.proofs.Common.{◌≡◌, ℕ, zero, suc, ◌+◌, ◌-◌, ◌*◌, ◌/◌, ◌%◌, ◌^◌, ◌<◌, ◌≤◌, min, List, [], ◌∷◌, ◌++◌, length, get_or, take, drop, sym}
+use Rattle.std.proofs.Common.{refl, ap, ◌∙◌, ap₂, arith, take-append-drop, drop-drop}
 use lib.Bits.{bit_and, and_step, and_zero_r, and_le_r, and_mod, and_shr, or_disjoint}
 use Rattle.md5_rules.specs.declared.Words.{Words}
 use Rattle.md5_rules.specs.Md5.{◌⊕◌, ◌⋘◌, complement, mix_g, sines, sine, block_word, step, steps, compressed, blocks}

@@ -56,5 +56,11 @@ unfolding message_check check_of
 message_neighbours m i h n₃ n₄ n₅ =
     let s₄ : suc i ≢ 4 = omega arith in
     let s₅ : suc i ≢ 5 = omega arith in
-    rw (add-one, zeroed_set (set m i (bit_xor (get_or m i 0) 0x0A)) (suc i) s₄ s₅, zeroed_set m i n₄ n₅, ← zeroed_get_d m i n₄ n₅, ← zeroed_get_d m (suc i) s₄ s₅)
+    rw (
+      add-one,
+      zeroed_set (set m i (bit_xor (get_or m i 0) 0x0A)) (suc i) s₄ s₅,
+      zeroed_set m i n₄ n₅,
+      ← zeroed_get_d m i n₄ n₅,
+      ← zeroed_get_d m (suc i) s₄ s₅,
+    )
     (register_neighbours (zeroed m) i 0 (simp length_zeroed (omega arith)))

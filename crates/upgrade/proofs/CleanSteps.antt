@@ -86,7 +86,11 @@ module _ (s : Setting) where
         → At (next (records s.content) w (at_device (digest_given digest))) (begun_with s y) (gateway_in s gateway.serve)
     unfolding device_does
     digest-leads y e =
-        device_then_lem s w here (digest_given digest) (ap (λ (d : Device). record { device = d; image = (begun_with s x).image; map = (begun_with s x).map }) e)
+        device_then_lem s w here (digest_given digest) (ap (λ (d : Device). record {
+          device = d;
+          image = (begun_with s x).image;
+          map = (begun_with s x).map;
+        }) e)
 
     pub digest_expected : length digest ≡ 16
         → At (next (records s.content) w (at_device (digest_given digest))) (begun_with s (device.digest_set digest)) (gateway_in s gateway.serve)

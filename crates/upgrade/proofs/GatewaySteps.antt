@@ -6,7 +6,8 @@ use mathlib.Core.Path.{◌≡◌, refl, sym, ◌∙◌, ap, subst}
 use mathlib.Core.List.{List, ◌++◌}
 use mathlib.Core.Logic.{◌⊎◌, inl, inr}
 use Rattle.message.specs.declared.Fields.{Fields}
-use Rattle.message.specs.Messages.{DeviceMessage, query, announce, fragment, download_reply, execute, result_reply, GatewayMessage, announce_reply, result_report}
+use Rattle.message.specs.Messages.{DeviceMessage, query, announce, fragment, download_reply, execute, result_reply, GatewayMessage, announce_reply}
+use Rattle.message.specs.Messages.{result_report}
 use Rattle.message.specs.Messages.{Reading, refused, to_device, to_gateway}
 use Rattle.codec.specs.Codec.{read_of}
 use Rattle.gateway_record.specs.declared.Gateway.{Gateway}

@@ -38,8 +38,10 @@ heard : {m : List ℕ} {air : List (List ℕ)} → Memᴰ m (m ∷ air)
 heard = Memᴰ.head refl
 
 pub witnesses : Witnesses
-unfolding pick refusal one_of part same over patched doubled entry_of step register check_of zeroed message_check size_ok total_ok is_word version_character front
-    all_zero good_version start_holds version_byte_holds code_holds check_holds length_holds recognition device_row fragment_ok device_fields gateway_row install_code
+unfolding pick refusal one_of part same over patched doubled entry_of step register check_of zeroed message_check size_ok total_ok is_word
+    version_character front
+    all_zero good_version start_holds version_byte_holds code_holds check_holds length_holds recognition device_row fragment_ok device_fields gateway_row
+    install_code
     gateway_fields sealed frame bytes_of read_of write_of said marked mark cleared missing_from lowest_missing device_record.holding device_record.condition_ok
     device_record.new_of device_record.download_ok device_record.record_ok device_record.map_bytes device_record.memory_ok device.begin device.store
     device.on_query device.on_announce device.on_fragment device.on_download_reply device.on_execute device.on_result_reply device.handle device.receive_of

@@ -1,5 +1,4 @@
 -- `basis::one_of` meets its contract. Assumes nothing.
-use Prim.Native.Nat.{◌-◌}
 use native.Mathlib.Omega.{arith}
 use mathlib.Core.Path.{refl, sym, ◌∙◌}
 use Rattle.basis.proofs.Lists.{one_of_here, one_of_later, one_of_none}

@@ -1,5 +1,4 @@
 -- `basis::same_bytes` meets its contract: the loop compares byte by byte, and what is left of both slices decides. Assumes nothing.
-use Prim.Native.Nat.{◌-◌}
 use native.Mathlib.Omega.{arith}
 use mathlib.Core.Path.{refl, sym, ◌∙◌}
 use Rattle.basis.proofs.Lists.{same_later, same_differs, same_lengths, same_ended}

@@ -1,5 +1,5 @@
 -- `bitmap::clear` meets its contract: the invariant: the bytes passed are zeroed, and no other. Assumes nothing.
-use Prim.Native.Nat.{ℕ, ◌-◌}
+use Prim.Native.Nat.{ℕ}
 use native.Mathlib.Omega.{arith}
 use mathlib.Core.Path.{refl, ◌∙◌, ap}
 use Rattle.basis.specs.Bytes.{over}

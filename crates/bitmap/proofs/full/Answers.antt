@@ -1,5 +1,4 @@
 -- `bitmap::full` meets its contract. The invariant: all bytes are full just where those passed and those left are. Assumes nothing.
-use Prim.Native.Nat.{◌-◌}
 use native.Mathlib.Omega.{arith}
 use mathlib.Core.Path.{refl, sym, ◌∙◌}
 use Rattle.bitmap.proofs.FullBytes.{full_later, full_end}

@@ -1,5 +1,4 @@
 -- `bitmap::skip_full` meets its contract: the invariant: every byte from the start to the place reached is full. Assumes nothing.
-use Prim.Native.Nat.{◌-◌}
 use native.Mathlib.Omega.{arith}
 use mathlib.Core.Path.{sym, ◌∙◌}
 use Rattle.bitmap.proofs.FullBytes.{full_part, passed_more}

@@ -6,7 +6,6 @@ use lib.ListN.{get_or}
 use Rattle.checksum.proofs.Register.{turn, ended, table_fits}
 use mathlib.Core.Path.{refl}
 use native.Mathlib.Omega.{arith}
-use Prim.Native.Nat.{◌-◌}
 use Rattle.checksum.proofs.by_table.Goals as goal
 
 pub loop-i-init : goal.loop-i-init

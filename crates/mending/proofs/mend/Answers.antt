@@ -15,7 +15,11 @@ returns-then-out-capture c = no_room_lem c.args.capture.now _ _ c.if-capture-gt-
 pub run-reached-requires : goal.run-reached-requires
 run-reached-requires c = let all = fits c.args.capture.now
     c.args.out.now
-    c.args.told.now c.if-capture-gt-CAPTURE_MOST.false c.if-out-capture.false in record { capture_len_bound = all.0; capture_in_bounds = all.1.0; told_room_in_bounds = all.1.1 }
+    c.args.told.now c.if-capture-gt-CAPTURE_MOST.false c.if-out-capture.false in record {
+      capture_len_bound = all.0;
+      capture_in_bounds = all.1.0;
+      told_room_in_bounds = all.1.1;
+    }
 
 pub returns : goal.returns
 returns c = mends _ _ _ c.if-capture-gt-CAPTURE_MOST.false

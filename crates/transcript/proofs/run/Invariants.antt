@@ -8,7 +8,8 @@ use Rattle.transcript.proofs.run.Given as goal
 
 abbrev pub invariant-loop-number : goal.invariant-loop-number
 invariant-loop-number l = Reached l.capture l.initial.out
-    (after_call l.initial.answer l.initial.image l.initial.map l.initial.reply) l.answer l.image l.map l.reply l.out l.at l.end l.number × (length l.image ≡ length l.initial.image) × (length l.map ≡ length l.initial.map)
+    (after_call l.initial.answer l.initial.image l.initial.map l.initial.reply) l.answer l.image l.map l.reply l.out l.at l.end l.number
+    × (length l.image ≡ length l.initial.image) × (length l.map ≡ length l.initial.map)
 
 abbrev pub decreases-loop-number : goal.decreases-loop-number
 decreases-loop-number l = suc (length l.capture) - l.number

@@ -1,7 +1,6 @@
 -- `checksum::fold::fold` meets its contract: each turn lays thirteen bytes over those that are held. Assumes nothing.
 use borrow.Author.Rules.{rules}
 use Rattle.checksum.proofs.Words.{first, turn}
-use Prim.Native.Nat.{◌-◌}
 use native.Mathlib.Omega.{arith}
 use Rattle.checksum.proofs.fold.fold.Goals as goal
 

@@ -4,7 +4,6 @@ use Rattle.checksum.proofs.Register.{narrowed}
 use mathlib.Core.Path.{refl, ◌∙◌}
 use borrow.Author.Rules.{rules}
 use native.Mathlib.Omega.{arith}
-use Prim.Native.Nat.{◌-◌}
 use Rattle.checksum.proofs.quads.run.Goals as goal
 
 pub loop-i-init : goal.loop-i-init

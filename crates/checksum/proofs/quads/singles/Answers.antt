@@ -1,7 +1,6 @@
 -- `checksum::quads::singles` meets its contract: byte by byte. Assumes nothing.
 use Rattle.checksum.proofs.Register.{single_turn, ended}
 use mathlib.Core.Path.{refl}
-use Prim.Native.Nat.{◌-◌}
 use Rattle.checksum.proofs.quads.singles.Goals as goal
 
 pub loop-i-init : goal.loop-i-init

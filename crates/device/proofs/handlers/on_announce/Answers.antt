@@ -11,7 +11,10 @@ use borrow.Enum.Refused.{opened}
 use Rattle.device.proofs.handlers.on_announce.Goals as goal
 
 pub returns-in_default : goal.returns-in_default
-returns-in_default c = record { by_index = λ s t k e. unexpected enum _ _ e tt (opened c.in_default.in_default-own.keys2); by_index_2 = λ n e. leaves _ _ _ _ c.number_of.ensures c.refused.ensures n e _ _ _ }
+returns-in_default c = record {
+  by_index = λ s t k e. unexpected enum _ _ e tt (opened c.in_default.in_default-own.keys2);
+  by_index_2 = λ n e. leaves _ _ _ _ c.number_of.ensures c.refused.ensures n e _ _ _;
+}
 
 pub replied-requires : goal.replied-requires
 unfolding gateway_row one_of

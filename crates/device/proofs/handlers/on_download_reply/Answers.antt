@@ -10,7 +10,10 @@ use borrow.Enum.Refused.{opened}
 use Rattle.device.proofs.handlers.on_download_reply.Goals as goal
 
 pub returns-in_default : goal.returns-in_default
-returns-in_default c = record { fact = λ r e i m p. unexpected enum _ _ e tt (opened c.in_default.in_default-own.keys2); by_index = leaves _ _ _ _ c.number_of.ensures c.refused.ensures }
+returns-in_default c = record {
+  fact = λ r e i m p. unexpected enum _ _ e tt (opened c.in_default.in_default-own.keys2);
+  by_index = leaves _ _ _ _ c.number_of.ensures c.refused.ensures;
+}
 
 pub returns-then-device-eq-LOADED : goal.returns-then-device-eq-LOADED
 unfolding on_download_reply

@@ -10,7 +10,10 @@ use borrow.Enum.Refused.{opened}
 use Rattle.device.proofs.handlers.on_execute.Goals as goal
 
 pub returns-in_default : goal.returns-in_default
-returns-in_default c = record { reply_after = λ e i m. unexpected enum _ _ e tt (opened c.in_default.in_default-own.keys2); by_index = λ n e i m. leaves _ _ _ _ c.number_of.ensures c.refused.ensures n e i m _ }
+returns-in_default c = record {
+  reply_after = λ e i m. unexpected enum _ _ e tt (opened c.in_default.in_default-own.keys2);
+  by_index = λ n e i m. leaves _ _ _ _ c.number_of.ensures c.refused.ensures n e i m _;
+}
 
 pub replied-requires : goal.replied-requires
 replied-requires c = record { device_room_in_bounds = c.requires; sayable = rw c.execute_result-result.ensures (execute_allowed _ _) }

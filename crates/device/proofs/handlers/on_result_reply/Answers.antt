@@ -10,12 +10,21 @@ use borrow.Enum.Refused.{opened}
 use Rattle.device.proofs.handlers.on_result_reply.Goals as goal
 
 pub returns-in_default : goal.returns-in_default
-returns-in_default c = record { fact = λ r e i m p. unexpected enum _ _ e tt (opened c.in_default.in_default-own.keys2); by_index = leaves _ _ _ _ c.number_of.ensures c.refused.ensures }
+returns-in_default c = record {
+  fact = λ r e i m p. unexpected enum _ _ e tt (opened c.in_default.in_default-own.keys2);
+  by_index = leaves _ _ _ _ c.number_of.ensures c.refused.ensures;
+}
 
 pub returns-then-device-eq-REPORTING : goal.returns-then-device-eq-REPORTING
 unfolding on_result_reply
-returns-then-device-eq-REPORTING c = record { fact = λ r e i m p. c.moved.ensures i m p ∙ rw c.in_phase.ensures (sym (pick_yes _ _ _ (eq-eqb _ _ c.if-device-eq-REPORTING.true))); by_index = λ n e i m p. no_other enum _ _ 6 e tt c.in-ResultReply.in-ResultReply-own.keys1 }
+returns-then-device-eq-REPORTING c = record {
+  fact = λ r e i m p. c.moved.ensures i m p ∙ rw c.in_phase.ensures (sym (pick_yes _ _ _ (eq-eqb _ _ c.if-device-eq-REPORTING.true)));
+  by_index = λ n e i m p. no_other enum _ _ 6 e tt c.in-ResultReply.in-ResultReply-own.keys1;
+}
 
 pub returns-else-device-eq-REPORTING : goal.returns-else-device-eq-REPORTING
 unfolding on_result_reply
-returns-else-device-eq-REPORTING c = record { fact = λ r e i m p. c.refused-else-device-eq-REPORTING.ensures i m p ∙ sym (pick_no _ _ _ (ne_eqb _ _ c.if-device-eq-REPORTING.false)); by_index = λ n e i m p. no_other enum _ _ 6 e tt c.in-ResultReply.in-ResultReply-own.keys1 }
+returns-else-device-eq-REPORTING c = record {
+  fact = λ r e i m p. c.refused-else-device-eq-REPORTING.ensures i m p ∙ sym (pick_no _ _ _ (ne_eqb _ _ c.if-device-eq-REPORTING.false));
+  by_index = λ n e i m p. no_other enum _ _ 6 e tt c.in-ResultReply.in-ResultReply-own.keys1;
+}

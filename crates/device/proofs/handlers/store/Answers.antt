@@ -6,15 +6,24 @@ use Rattle.device.proofs.handlers.store.Goals as goal
 
 pub put-requires : goal.put-requires
 put-requires c =
-    rw c.product-at.ensures (place_fits _ _ c.args.map.now _ c.args.content.now (c.requires.device_value, (c.requires.phase_value, (c.requires.map_value, (c.requires.index_lt_total, c.requires.content_value)))))
+    rw c.product-at.ensures (place_fits _ _ c.args.map.now _ c.args.content.now
+    (c.requires.device_value, (c.requires.phase_value, (c.requires.map_value, (c.requires.index_lt_total, c.requires.content_value)))))
 
 pub overflow_cast-content : goal.overflow_cast-content
 overflow_cast-content c =
-    omega (arith, content_short _ c.args.image.now c.args.map.now _ c.args.content.now (c.requires.device_value, (c.requires.phase_value, (c.requires.map_value, (c.requires.index_lt_total, c.requires.content_value)))))
+    omega (
+      arith,
+      content_short _ c.args.image.now c.args.map.now _ c.args.content.now
+          (c.requires.device_value, (c.requires.phase_value, (c.requires.map_value, (c.requires.index_lt_total, c.requires.content_value)))),
+    )
 
 pub overflow_add-stored : goal.overflow_add-stored
 overflow_add-stored c =
-    omega (arith, count_fits _ c.args.image.now c.args.map.now _ c.args.content.now (c.requires.device_value, (c.requires.phase_value, (c.requires.map_value, (c.requires.index_lt_total, c.requires.content_value)))))
+    omega (
+      arith,
+      count_fits _ c.args.image.now c.args.map.now _ c.args.content.now
+          (c.requires.device_value, (c.requires.phase_value, (c.requires.map_value, (c.requires.index_lt_total, c.requires.content_value)))),
+    )
 
 pub returns : goal.returns
 returns c =

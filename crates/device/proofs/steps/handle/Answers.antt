@@ -48,5 +48,7 @@ returns-in-23 c =
 pub returns-in_default : goal.returns-in_default
 unfolding handle
 returns-in_default c =
-    leads_last _ _ _ _ _ _ _ _ c.args.reading _ _ c.byte_at-code.ensures c.in_default.in_default-own.rest.0.0.0.0.1 c.in_default.in_default-own.rest.0.0.0.1 c.in_default.in_default-own.rest.0.0.1
-    c.in_default.in_default-own.rest.0.1 c.in_default.in_default-own.rest.1 c.requires.of_code (λ v e. c.on_result_reply.ensures.fact _ e _ _ _) (λ v e. c.on_result_reply.ensures.by_index _ e _ _ _)
+    leads_last _ _ _ _ _ _ _ _ c.args.reading _ _ c.byte_at-code.ensures c.in_default.in_default-own.rest.0.0.0.0.1
+    c.in_default.in_default-own.rest.0.0.0.1 c.in_default.in_default-own.rest.0.0.1
+    c.in_default.in_default-own.rest.0.1 c.in_default.in_default-own.rest.1 c.requires.of_code (λ v e. c.on_result_reply.ensures.fact _ e _ _ _)
+    (λ v e. c.on_result_reply.ensures.by_index _ e _ _ _)

@@ -16,4 +16,5 @@ pub returns-in-6 : goal.returns-in-6
 returns-in-6 c = asks_reporting _ _ c.in-6.is
 
 pub returns-in_default : goal.returns-in_default
-returns-in_default c = asks_nothing _ _ c.in_default.in_default-own.rest.0.0.0.1 c.in_default.in_default-own.rest.0.0.1 c.in_default.in_default-own.rest.0.1 c.in_default.in_default-own.rest.1
+returns-in_default c = asks_nothing _ _ c.in_default.in_default-own.rest.0.0.0.1 c.in_default.in_default-own.rest.0.0.1
+    c.in_default.in_default-own.rest.0.1 c.in_default.in_default-own.rest.1

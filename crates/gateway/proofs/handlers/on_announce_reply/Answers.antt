@@ -8,10 +8,16 @@ use borrow.Enum.Refused.{opened}
 use Rattle.gateway.proofs.handlers.on_announce_reply.Goals as goal
 
 pub returns-in_default : goal.returns-in_default
-returns-in_default c = record { fact = λ r e k b. unexpected enum _ _ e tt (opened c.in_default.in_default-own.keys2); by_index = λ n e k b. leaves _ _ _ _ c.number_of.ensures c.refused.ensures n e k b }
+returns-in_default c = record {
+  fact = λ r e k b. unexpected enum _ _ e tt (opened c.in_default.in_default-own.keys2);
+  by_index = λ n e k b. leaves _ _ _ _ c.number_of.ensures c.refused.ensures n e k b;
+}
 
 pub returns-then-gateway-ne-OFFER : goal.returns-then-gateway-ne-OFFER
-returns-then-gateway-ne-OFFER c = record { fact = λ r e k b. c.refused-then-gateway-ne-OFFER.ensures k b ∙ announce_elsewhere _ k b r c.if-gateway-ne-OFFER.true; by_index = λ n e k b. no_other enum _ _ 2 e tt c.in-AnnounceReply.in-AnnounceReply-own.keys1 }
+returns-then-gateway-ne-OFFER c = record {
+  fact = λ r e k b. c.refused-then-gateway-ne-OFFER.ensures k b ∙ announce_elsewhere _ k b r c.if-gateway-ne-OFFER.true;
+  by_index = λ n e k b. no_other enum _ _ 2 e tt c.in-AnnounceReply.in-AnnounceReply-own.keys1;
+}
 
 pub returns : goal.returns
 returns c = record {

@@ -10,7 +10,10 @@ use borrow.Enum.Refused.{opened}
 use Rattle.gateway.proofs.handlers.on_download_report.Goals as goal
 
 pub returns-in_default : goal.returns-in_default
-returns-in_default c = record { fact = λ r e k. unexpected enum _ _ e tt (opened c.in_default.in_default-own.keys2); by_index = λ n e k. leaves _ _ _ _ c.number_of.ensures c.refused.ensures n e k _ }
+returns-in_default c = record {
+  fact = λ r e k. unexpected enum _ _ e tt (opened c.in_default.in_default-own.keys2);
+  by_index = λ n e k. leaves _ _ _ _ c.number_of.ensures c.refused.ensures n e k _;
+}
 
 pub replied-requires : goal.replied-requires
 unfolding device_row one_of

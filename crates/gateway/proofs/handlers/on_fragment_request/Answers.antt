@@ -10,7 +10,10 @@ use borrow.Enum.Refused.{opened}
 use Rattle.gateway.proofs.handlers.on_fragment_request.Goals as goal
 
 pub returns-in_default : goal.returns-in_default
-returns-in_default c = record { by_index = λ i e. unexpected enum _ _ e tt (opened c.in_default.in_default-own.keys2); by_index_2 = λ n e. leaves _ _ _ _ c.number_of.ensures c.refused.ensures n e c.args.content.now _ }
+returns-in_default c = record {
+  by_index = λ i e. unexpected enum _ _ e tt (opened c.in_default.in_default-own.keys2);
+  by_index_2 = λ n e. leaves _ _ _ _ c.number_of.ensures c.refused.ensures n e c.args.content.now _;
+}
 
 pub replied-requires : goal.replied-requires
 replied-requires c = record {

@@ -10,14 +10,20 @@ use borrow.Enum.Refused.{opened}
 use Rattle.gateway.proofs.handlers.on_result_report.Goals as goal
 
 pub returns-in_default : goal.returns-in_default
-returns-in_default c = record { fact = λ r e k. unexpected enum _ _ e tt (opened c.in_default.in_default-own.keys2); by_index = λ n e k. leaves _ _ _ _ c.number_of.ensures c.refused.ensures n e k _ }
+returns-in_default c = record {
+  fact = λ r e k. unexpected enum _ _ e tt (opened c.in_default.in_default-own.keys2);
+  by_index = λ n e k. leaves _ _ _ _ c.number_of.ensures c.refused.ensures n e k _;
+}
 
 pub replied-requires : goal.replied-requires
 unfolding device_row one_of
 replied-requires c = record { gateway_room_in_bounds = c.requires; sayable = refl }
 
 pub returns-then-gateway-ne-RUN : goal.returns-then-gateway-ne-RUN
-returns-then-gateway-ne-RUN c = record { fact = λ r e k. c.replied.ensures _ refl ∙ result_elsewhere _ k _ r _ c.if-gateway-ne-RUN.true; by_index = λ n e k. no_other enum _ _ 6 e tt c.in-ResultReport.in-ResultReport-own.keys1 }
+returns-then-gateway-ne-RUN c = record {
+  fact = λ r e k. c.replied.ensures _ refl ∙ result_elsewhere _ k _ r _ c.if-gateway-ne-RUN.true;
+  by_index = λ n e k. no_other enum _ _ 6 e tt c.in-ResultReport.in-ResultReport-own.keys1;
+}
 
 pub replied-requires-2 : goal.replied-requires-2
 unfolding device_row one_of

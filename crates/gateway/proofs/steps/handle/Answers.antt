@@ -40,7 +40,8 @@ returns-in-23 c =
 pub returns-in_default : goal.returns-in_default
 unfolding handle
 returns-in_default c =
-    leads_last _ c.args.content.now c.args.reply.now _ _ c.args.reading _ c.in_default.in_default-own.rest.0.0.0.0.1 c.in_default.in_default-own.rest.0.0.0.1 c.in_default.in_default-own.rest.0.0.1 c.in_default.in_default-own.rest.0.1 c.in_default.in_default-own.rest.1
+    leads_last _ c.args.content.now c.args.reply.now _ _ c.args.reading _ c.in_default.in_default-own.rest.0.0.0.0.1
+    c.in_default.in_default-own.rest.0.0.0.1 c.in_default.in_default-own.rest.0.0.1 c.in_default.in_default-own.rest.0.1 c.in_default.in_default-own.rest.1
     c.requires.of_code
     (λ v e. c.on_result_report.ensures.fact v.0 e c.args.content.now) (λ v e. c.on_result_report.ensures.by_index
     v.0 e c.args.content.now)

@@ -11,7 +11,8 @@ use Rattle.basis.specs.Bytes.{word_at}
 use Rattle.basis.proofs.Choosing.{passes, fails, and_left}
 use Rattle.checksum.specs.Check.{message_check}
 use Rattle.message.specs.Recognition.{start_holds, version_byte_holds, code_holds, check_holds, length_holds, recognition}
-use Rattle.message.proofs.recognition.recognise.Goals.{Else-not-length_holds, Then-not-check_holds, Then-not-code_holds, Then-not-length_holds, Then-not-pcp, Then-not-start_holds, Then-not-supported, Then-not-version_byte_holds}
+use Rattle.message.proofs.recognition.recognise.Goals.{Else-not-length_holds, Then-not-check_holds, Then-not-code_holds, Then-not-length_holds}
+use Rattle.message.proofs.recognition.recognise.Goals.{Then-not-pcp, Then-not-start_holds, Then-not-supported, Then-not-version_byte_holds}
 use Rattle.message.proofs.recognition.recognise.Goals as goal
 
 -- the tests_at_1 that the specification lists
