@@ -39,13 +39,14 @@ pub fn hosts_install_the_package_length()
     ensures { HostedInstallLength }
 {}
 
-/// What a host's record calls completed passes the announced check code and the digest that was
-/// given.
+/// With one map and one image, what a host's record calls completed passes the announced check code
+/// and the digest that was given.
 pub fn hosted_completed_is_tested()
     ensures { HostedCompletedIsTested }
 {}
 
-/// A host's stored count is the number of bits set in its map, and no call is refused with 29.
+/// With one map, in every phase but Idle a host's stored count is the number of bits set among the
+/// first total, and no call is refused with 29.
 pub fn hosted_stored_is_the_count()
     ensures { HostedCount }
 {}

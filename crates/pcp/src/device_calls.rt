@@ -7,6 +7,7 @@ use basis::number::{HANDLED, SHORT_RECORD};
 use device::Device;
 
 // A fresh device that runs a version.
+#[tactic(auto, unfolding(exports::specs::Exports::device_new_of, basis::specs::Choice::pick))]
 #[unsafe(no_mangle)]
 pub extern "C" fn pcp_raw_device_new(bytes: &mut [u8], version: &[u8]) -> u8
     ensures { record { answer = result; bytes = bytes.new } ≡ device_new_of bytes.old version.now }

@@ -8,6 +8,7 @@ use basis::number::{HANDLED, SHORT_RECORD};
 use gateway::Gateway;
 
 // A gateway for a package.
+#[tactic(auto, unfolding(exports::specs::Exports::gateway_start_of, basis::specs::Choice::pick))]
 #[unsafe(no_mangle)]
 pub extern "C" fn pcp_raw_gateway_start(
     bytes: &mut [u8],

@@ -39,14 +39,14 @@ pub fn repeats_are_compared()
     ensures { RepeatsCompared }
 {}
 
-/// On any run, in Loaded, Acked, Installing and Reporting all fragments are stored, and the
-/// completed bytes pass the announced check code and the digest that was given.
+/// On any run with one map and one image, in Loaded, Acked, Installing and Reporting all fragments
+/// are stored, and the completed bytes pass the announced check code and the digest that was given.
 pub fn completed_is_tested()
     ensures { CompletedIsTested }
 {}
 
-/// On any run with one map, the stored count is the number of bits set, and no call is refused with
-/// 29.
+/// On any run with one map, in every phase but Idle the stored count is the number of bits set among
+/// the first total; the record keeps the rules, and no call is refused with 29.
 pub fn stored_is_the_count()
     ensures { Count }
 {}
