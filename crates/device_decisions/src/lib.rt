@@ -111,6 +111,7 @@ fn check_passes(code: u16, bytes: &[u8]) -> bool
 }
 
 // No digest is set, or it is that of the bytes. The flag says so, never the digest's value.
+#[tactic(auto, unfolding(device_rules::specs::Decisions::digest_passes))]
 fn digest_passes(expected: Expected, bytes: &[u8]) -> bool
     ensures { result ≡ digest_passes expected bytes.now }
 {
@@ -144,6 +145,7 @@ fn true_length(fields: Fields, last: u16) -> usize
 }
 
 // 21: the phase once a fragment is stored. The package ends where its last fragment does.
+#[tactic(auto, unfolding(device_rules::specs::Decisions::completion, basis::specs::Choice::pick), using(basis::proofs::Lists::take_least))]
 pub fn completion(device: Device, stored: u16, last: u16, image: &[u8]) -> u8
     ensures { result ≡ completion stored last device.fields device.expected image.now }
 {

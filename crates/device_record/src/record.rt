@@ -74,6 +74,7 @@ pub fn with_fragment(device: Device, phase: u8, stored: u16, last: u16) -> Devic
 }
 
 // The installer's code kept. With 00 the target runs from now on.
+#[tactic(auto, unfolding(crate::specs::Record::with_outcome, basis::specs::Choice::pick))]
 pub fn with_outcome(device: Device, code: u8) -> Device
     ensures { result ≡ with_outcome code (pick (eqb code 0) device.fields.version device.running) device }
 {

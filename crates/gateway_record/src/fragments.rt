@@ -35,6 +35,7 @@ pub fn announced_total(length: usize, size: u16) -> u16
 }
 
 // The package's check code: the check rule over it, or 0, as the caller chose.
+#[tactic(auto, unfolding(basis::specs::Choice::pick))]
 pub(crate) fn code_of(content: &[u8], checked: bool) -> u16
     ensures { result ≡ pick checked (check_of content.now) 0 }
 {

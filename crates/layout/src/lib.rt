@@ -98,6 +98,7 @@ fn put_expected(buffer: &mut [u8], expected: Expected)
 
 // The device's record as a call returned it, with whatever number; written only where there is room
 // for it.
+#[tactic(auto, using(layout_rules::proofs::Layouts::kept_short))]
 pub fn keep_device(buffer: &mut [u8], device: Device)
     ensures { buffer.new ≡ kept device_length (device_bytes device) buffer.old }
 {

@@ -7,6 +7,7 @@ ghost use Rattle.transcript.specs.Line.{reply_text, line_text};
 use text::{put_hex, put_number, put_text};
 
 // A reply in hex, or "-" where there is none.
+#[tactic(auto, unfolding(crate::specs::Line::reply_text))]
 fn put_reply(out: &mut [u8], at: usize, reply: &[u8]) -> usize
     ensures { written result out.new ≡ text_at (reply_text reply.now) out.old at }
 {

