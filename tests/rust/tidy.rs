@@ -82,7 +82,8 @@ fn faults(path: &Path, text: &str) -> Vec<String> {
     for (number, line) in text.lines().enumerate() {
         let mut tell = |what: String| faults.push(format!("{}:{}: {}", path.display(), number + 1, what));
         let length = line.chars().count();
-        if length > LONGEST {
+        // The toolchain's layout keeps an attribute in one line.
+        if length > LONGEST && !line.trim_start().starts_with("#[tactic(") {
             tell(format!("{} characters", length));
         }
         if is_place(line) {

@@ -2,12 +2,12 @@
 use Prim.Native.Nat.{ℕ, suc, ◌≤◌}
 use native.Mathlib.Omega.{arith}
 use mathlib.Core.Path.{◌≡◌, refl, sym, ◌∙◌}
-use mathlib.Core.Bool.{Bool, true, false, not, ◌&&◌, ◌||◌, false≢true, true≢false}
+use mathlib.Core.Bool.{Bool, true, false, ◌&&◌, ◌||◌, false≢true, true≢false}
 use mathlib.Core.Logic.{◌⊎◌, inl, inr}
 use mathlib.Core.List.{List, [], ◌∷◌}
 use lib.Dec.{eqb, leb}
-use borrow.Author.Tests.{leb-true, leb-false, eqb-true, eqb-false, eq-eqb, ne_eqb}
-use Rattle.basis.specs.Choice.{pick, refusal, one_of}
+use borrow.Author.Tests.{leb-true, leb-false, eqb-true, eqb-false}
+use Rattle.basis.specs.Choice.{pick, refusal}
 
 module _ {ℓ} {A : Type ℓ} where
   pub pick_yes : (t : Bool) (a b : A) → t ≡ true → pick t a b ≡ a
@@ -31,17 +31,6 @@ unfolding pick
 pick_of f true a b = refl
 pick_of f false a b = refl
 
--- a choice between a test and a constant is a test
-pub pick_or : (t b : Bool) → pick t true b ≡ (t || b)
-unfolding pick
-pick_or true b = refl
-pick_or false b = refl
-
-pub pick_unless : (t a : Bool) → pick t a true ≡ (not t || a)
-unfolding pick
-pick_unless true a = refl
-pick_unless false a = refl
-
 pub and_left : (a b : Bool) → (a && b) ≡ true → a ≡ true
 and_left true b e = refl
 and_left false b e = e
@@ -58,21 +47,9 @@ pub and_true : (a : Bool) → (a && true) ≡ a
 and_true true = refl
 and_true false = refl
 
-pub or_false : (a : Bool) → (a || false) ≡ a
-or_false true = refl
-or_false false = refl
-
 pub or_either : (a b : Bool) → (a || b) ≡ true → (a ≡ true) ⊎ (b ≡ true)
 or_either true b e = inl refl
 or_either false b e = inr e
-
--- two tests of equality that hold together
-pub eqb_alike : (a b c d : ℕ) → (a ≡ b → c ≡ d) → (c ≡ d → a ≡ b) → eqb a b ≡ eqb c d
-eqb_alike a b c d f g = go (eqb a b) refl
-  where
-    go : (t : Bool) → eqb a b ≡ t → t ≡ eqb c d
-    go true e = sym (eq-eqb c d (f (eqb-true a b e)))
-    go false e = sym (ne_eqb c d (λ q. eqb-false a b e (g q)))
 
 -- two comparisons that hold together
 pub leb_alike : (a b c d : ℕ) → (a ≤ b → c ≤ d) → (c ≤ d → a ≤ b) → leb a b ≡ leb c d
@@ -119,12 +96,3 @@ by_refusal P n a b f pass p =
 abbrev pub Every : (ℕ → Type 0) → List ℕ → Type 0
 Every P [] = Unit
 Every P (n ∷ ns) = P n × Every P ns
-
-pub one_of_every : (P : ℕ → Type 0) (x : ℕ) (ns : List ℕ) → one_of x ns ≡ true → Every P ns → P x
-unfolding one_of
-one_of_every P x [] e h = absurd (false≢true e)
-one_of_every P x (n ∷ ns) e h = here (eqb x n) refl e (λ k. one_of_every P x ns k h.1)
-  where
-    here : (t : Bool) → eqb x n ≡ t → (t || one_of x ns) ≡ true → (one_of x ns ≡ true → P x) → P x
-    here true q e later = rw (eqb-true x n q) h.0
-    here false q e later = later e

@@ -1,2 +1,4 @@
+pub mod Alike
 pub mod Choosing
 pub mod Lists
+pub mod Refused

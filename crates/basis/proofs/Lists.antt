@@ -1,6 +1,6 @@
 -- Laws of lists as buffers: parts, WORDs, and what is written over a buffer. Assumes nothing.
-use Prim.Native.Nat.{ℕ, zero, suc, ◌+◌, ◌*◌, ◌/◌, ◌%◌, ◌-◌, ◌≤◌, ◌<◌, min}
-use native.Mathlib.Nat.{mul-le-mul, zero-add, add-zero, add-suc, suc-add}
+use Prim.Native.Nat.{ℕ, zero, suc, ◌+◌, ◌*◌, ◌/◌, ◌%◌, ◌-◌, ◌≤◌, ◌<◌}
+use native.Mathlib.Nat.{zero-add, add-zero, add-suc, suc-add}
 use native.Mathlib.Numerals.{add-one}
 use native.Mathlib.Decide.{dec_le}
 use native.Mathlib.Omega.{arith}
@@ -8,19 +8,15 @@ use mathlib.Core.Path.{◌≡◌, refl, sym, ◌∙◌, ap, ap₂}
 use mathlib.Core.Bool.{Bool, true, false, false≢true, true≢false}
 use mathlib.Core.List.{List, [], ◌∷◌, ◌++◌, append_assoc, append-nil}
 use lib.Dec.{eqb}
-use lib.ListN.{length, take, drop, get_or, set, length-append, length-take, length-drop, length-set, take-append-drop, drop_of_length-le, replicate}
+use lib.ListN.{length, take, drop, get_or, length-append, length-take, length-drop, take-append-drop, drop_of_length-le, replicate}
 use lib.ListN.{get_or-eq_default}
-use lib.Seq.{drop-cons, take_at, drop_at, drop-append-add, drop-drop, take_all, length-take-le, get_or-drop, take-length, set-append_left}
+use lib.Seq.{drop-cons, take_at, drop_at, drop-append-add, drop-drop, take_all, length-take-le, get_or-drop, take-length}
 use borrow.Author.Tests.{eqb-true, eq-eqb, ne_eqb}
 use Rattle.basis.specs.Choice.{one_of}
 use Rattle.basis.specs.Bytes.{Bytes, word_at, word_bytes, dword_at, dword_bytes, qword_at, qword_bytes, part, same, over, patched}
 use Rattle.basis.proofs.Choosing.{and_left, and_right, and_both}
 
 -- ---- numbers
-
--- the product of two WORDs
-pub words_product : (a b : ℕ) → a < 65536 → b < 65536 → a * b ≤ 65535 * 65535
-words_product a b h k = mul-le-mul {n₁ = a} {m₁ = b} {n₂ = 65535} {m₂ = 65535} (omega arith) (omega arith)
 
 -- ---- the same list
 
@@ -45,27 +41,6 @@ same_swap xs ys e = at (same ys xs) refl
     at : (t : Bool) → same ys xs ≡ t → same ys xs ≡ false
     at true t = absurd (true≢false (sym (same_eq xs ys (sym (same_true ys xs t))) ∙ e))
     at false t = t
-
--- two lists by what is left of them from a place on
-pub same_later : (xs ys : List ℕ) (i : ℕ) → i < length xs → i < length ys → get_or xs i 0 ≡ get_or ys i 0 → same (drop i xs) (drop i ys)
-    ≡ same (drop (i + 1) xs) (drop (i + 1) ys)
-unfolding same
-same_later xs ys i h k e = rw (drop-cons xs i 0, drop-cons ys i 0, eq-eqb (get_or xs i 0) (get_or ys i 0) e, add-one)
-
-pub same_differs : (xs ys : List ℕ) (i : ℕ) → i < length xs → i < length ys → (get_or xs i 0 ≡ get_or ys i 0 → ⊥) → same (drop i xs) (drop i ys) ≡ false
-unfolding same
-same_differs xs ys i h k e = rw (drop-cons xs i 0, drop-cons ys i 0, ne_eqb (get_or xs i 0) (get_or ys i 0) e)
-
-pub same_lengths : (xs ys : List ℕ) → (length xs ≡ length ys → ⊥) → same xs ys ≡ false
-same_lengths xs ys h = at (same xs ys) refl
-  where
-    at : (t : Bool) → same xs ys ≡ t → same xs ys ≡ false
-    at true t = absurd (h (ap length (same_true xs ys t)))
-    at false t = t
-
-pub same_ended : (xs ys : List ℕ) (i : ℕ) → length xs ≤ i → length ys ≤ i → same (drop i xs) (drop i ys) ≡ true
-unfolding same
-same_ended xs ys i h k = rw (drop_of_length-le xs h, drop_of_length-le ys k)
 
 -- ---- parts
 
@@ -138,40 +113,6 @@ same_part xs d e = go (same xs d) refl
         sym
         (ne_eqb (length xs) (length d)
         (λ q. false≢true (sym p ∙ same_eq xs d (e ∙ ap (part d 0) q ∙ part_whole d))))
-
--- a list from a place on, or from its end
-pub drop_least : (xs : List ℕ) (k at : ℕ) → at ≡ min (length xs) k → drop at xs ≡ drop k xs
-drop_least xs k at e = go (dec_le (length xs) k)
-  where
-    go : Dec (length xs ≤ k) → drop at xs ≡ drop k xs
-    go (yes h) =
-        let p : length xs ≤ at = omega arith in
-        drop_of_length-le xs p ∙ sym (drop_of_length-le xs h)
-    go (no h) =
-        let p : at ≡ k = omega arith in
-        rw p
-
--- a list up to a place, or to its end
-pub take_least : (xs : List ℕ) (k at : ℕ) → at ≡ min (length xs) k → take at xs ≡ take k xs
-take_least xs k at e = go (dec_le (length xs) k)
-  where
-    go : Dec (length xs ≤ k) → take at xs ≡ take k xs
-    go (yes h) =
-        let p : length xs ≤ at = omega arith in
-        take_all at xs p ∙ sym (take_all k xs h)
-    go (no h) =
-        let p : at ≡ k = omega arith in
-        rw p
-
-pub take_min : (n : ℕ) (xs : List ℕ) → take (min n (length xs)) xs ≡ take n xs
-take_min n xs = take_least xs n (min n (length xs)) (omega arith)
-
--- the part as `part_of` lends it: start and count are stopped at the end
-pub stretched : (xs : List ℕ) (start count from n : ℕ) → from ≡ min start (length xs) → n ≡ min count (length xs - from)
-    → take (from + n - from) (drop from xs) ≡ take count (drop start xs)
-stretched xs start count from n p q =
-    let l : from + n - from ≡ min (length (drop start xs)) count = simp length-drop (omega arith) in
-    rw (drop_least xs start from (omega arith)) (take_least (drop start xs) count (from + n - from) l)
 
 -- ---- WORDs, DWORDs, QWORDs
 
@@ -317,19 +258,10 @@ patched_patched at next xs ys o h e =
     ∙ ap (λ (p : List ℕ). over p o) (append_assoc (take at o) xs ys)
     ∙ sym (patched_is_over at (xs ++ ys) o h)
 
--- a front over a front of the same length
-pub over_over : (p q o : List ℕ) → length p ≡ length q → over q (over p o) ≡ over q o
-unfolding over
-over_over p q o e = rw (← e, drop_at p (drop (length p) o) (length p))
-
 -- the buffer's own front changes nothing, and an element of a front is set in it
 pub over_take : (n : ℕ) (o : List ℕ) → n ≤ length o → over (take n o) o ≡ o
 unfolding over
 over_take n o h = rw (length-take-le n o h) (take-append-drop n o)
-
-pub set_over : (p o : List ℕ) (i x : ℕ) → i < length p → set (over p o) i x ≡ over (set p i x) o
-unfolding over
-set_over p o i x h = rw (length-set) (set-append_left p (drop (length p) o) i x h)
 
 pub length_patched : (at : ℕ) (xs o : List ℕ) → at + length xs ≤ length o → length (patched at xs o) ≡ length o
 unfolding patched
@@ -348,14 +280,6 @@ pub rest_is : (at : ℕ) (o : List ℕ) → take (length o - at) (drop at o) ≡
 rest_is at o = take_all (length o - at) (drop at o) (simp length-drop (omega arith))
 
 -- ---- one of a list, by what is left of it from a place on
-
-pub one_of_here : (b : ℕ) (l : List ℕ) (i : ℕ) → i < length l → get_or l i 0 ≡ b → one_of b (drop i l) ≡ true
-unfolding one_of
-one_of_here b l i h e = rw (drop-cons l i 0, eq-eqb b (get_or l i 0) (sym e))
-
-pub one_of_later : (b : ℕ) (l : List ℕ) (i : ℕ) → i < length l → (get_or l i 0 ≡ b → ⊥) → one_of b (drop i l) ≡ one_of b (drop (i + 1) l)
-unfolding one_of
-one_of_later b l i h e = rw (drop-cons l i 0, ne_eqb b (get_or l i 0) (λ p. e (sym p)), add-one)
 
 pub one_of_none : (b : ℕ) (l : List ℕ) (i : ℕ) → length l ≤ i → one_of b (drop i l) ≡ false
 unfolding one_of

@@ -2,4 +2,5 @@ pub mod Choice
 pub mod Bytes
 pub mod Cases
 pub mod Numbers
+pub mod Refusals
 pub mod Stretch

@@ -1,63 +1,84 @@
 -- Full bytes and the lowest missing index: the index is found by passing over full bytes and taking the lowest clear bit of the byte
 -- that follows. Assumes nothing.
-use Prim.Native.Nat.{ℕ, zero, suc, ◌+◌, ◌*◌, ◌/◌, ◌%◌, ◌-◌, ◌≤◌, ◌<◌, min}
-use native.Mathlib.Nat.{not-suc-le-zero, add-sub_cancel_left}
-use native.Mathlib.Numerals.{add-one}
+use Prim.Native.Nat.{ℕ, zero, suc, ◌+◌, ◌*◌, ◌/◌, ◌%◌, ◌-◌, ◌^◌, ◌≤◌, ◌<◌, min}
+use native.Mathlib.Nat.{not-suc-le-zero, one-mul}
 use native.Mathlib.Decide.{dec_lt}
 use native.Mathlib.Omega.{arith}
 use mathlib.Core.Path.{◌≡◌, refl, sym, ◌∙◌, ap}
-use mathlib.Core.Bool.{Bool, true, false, ◌&&◌, ◌||◌, and_assoc}
+use mathlib.Core.Bool.{Bool, true, false, ◌&&◌, ◌||◌}
 use mathlib.Core.Logic.{⊎_elim}
-use mathlib.Core.List.{List, [], ◌∷◌}
+use mathlib.Core.List.{List, [], ◌∷◌, ◌++◌}
 use lib.Count.{count_trailing_zeros}
 use lib.Dec.{eqb, ltb}
-use lib.ListN.{length, take, drop, get_or, length-take, length-drop, drop_of_length-le, get_or-eq_default}
-use lib.Seq.{drop-cons, get_or-take, get_or-drop}
+use lib.ListN.{length, take, drop, get_or, replicate, length-take, length-drop, take-append-drop, get_or-eq_default}
+use lib.Pointwise.{pointwise}
+use lib.Pow.{shl_exact}
+use lib.Seq.{get_or-take, drop-drop}
 use borrow.Author.Tests.{eqb-true, eqb-false, ltb-true}
 use Rattle.basis.specs.Choice.{pick}
-use Rattle.basis.proofs.Choosing.{and_left, and_right, and_true, or_either}
+use Rattle.basis.proofs.Choosing.{and_left, and_right, or_either}
 use Rattle.bitmap.specs.Bitmap.{marked, missing_from, lowest_missing}
-use Rattle.bitmap.specs.Inner.{full, Skipped}
+use Rattle.std.proofs.lemmas.List.{take_all}
+use Rattle.std.specs.Cmp.Lexicographic.{same_text}
+use Rattle.std.specs.List.{prefix_len}
+use Rattle.std.specs.Simd.{first_chunks}
+use Rattle.std.proofs.lemmas.List.Sums.{prefix_len-le-length, prefix_len_passes, prefix_len_stops}
+use Rattle.std.proofs.Common.{inl, inr}
+use Rattle.std.proofs.lemmas.Bool.{cases_Bool}
 use Rattle.bitmap.proofs.Bitmaps.{below_suc, lowest_le, lowest_below, lowest_missing_lem, lowest_unique}
 
--- ---- full bytes
+-- ---- full bytes: the test of a byte, and of eight
 
-pub full_at : (bytes : List ℕ) → full bytes ≡ true → (k : ℕ) → k < length bytes → get_or bytes k 0 ≡ 255
-unfolding full
-full_at [] e k l = absurd (not-suc-le-zero l)
-full_at (b ∷ bs) e zero l = eqb-true b 255 (and_left (eqb b 255) (full bs) e)
-full_at (b ∷ bs) e (suc k) l = full_at bs (and_right (eqb b 255) (full bs) e) k (omega arith)
+abbrev byte_full : ℕ → Bool
+byte_full b = eqb b 255
 
-pub full_one : (bytes : List ℕ) (i : ℕ) → i < length bytes → full (take 1 (drop i bytes)) ≡ eqb (get_or bytes i 0) 255
-unfolding full
-full_one bytes i l = rw (drop-cons bytes i 0 l) (and_true (eqb (get_or bytes i 0) 255))
+abbrev eight_full : List ℕ → Bool
+eight_full eight = pointwise eqb eight (replicate 8 255)
 
--- byte by byte from the front
-pub full_later : (all : Bool) (bytes : List ℕ) (i : ℕ) → i < length bytes
-    → (all && full (drop i bytes)) ≡ (all && eqb (get_or bytes i 0) 255 && full (drop (i + 1) bytes))
-unfolding full
-full_later all bytes i l = rw (add-one i, drop-cons bytes i 0 l) (sym (and_assoc all (eqb (get_or bytes i 0) 255) (full (drop (suc i) bytes))))
+-- eight full bytes passed, and those behind them
+eight_more : (bytes : List ℕ) → take 8 bytes ≡ replicate 8 255 → prefix_len byte_full bytes ≡ 8 + prefix_len byte_full (drop 8 bytes)
+eight_more bytes e =
+    let whole : bytes ≡ replicate 8 255 ++ drop 8 bytes = sym (take-append-drop 8 bytes) ∙ ap (λ (xs : List ℕ). xs ++ drop 8 bytes) e in
+    ap (prefix_len byte_full) whole ∙ omega arith
 
-pub full_end : (all : Bool) (bytes : List ℕ) (i : ℕ) → length bytes ≤ i → (all && full (drop i bytes)) ≡ all
-unfolding full
-full_end all bytes i l = rw (drop_of_length-le bytes l) (and_true all)
+eights_passed : (t : List ℕ → Bool) → ((xs : List ℕ) → t xs ≡ true → xs ≡ replicate 8 255) → (n : ℕ) (bytes : List ℕ) →
+    let m : ℕ = prefix_len t (first_chunks 8 n bytes) in
+    prefix_len byte_full bytes ≡ 8 * m + prefix_len byte_full (drop (8 * m) bytes)
+eights_passed t h zero bytes = omega arith
+eights_passed t h (suc n) bytes = elim (cases_Bool (t (take 8 bytes))) [
+  | inl all ↦
+      let m : ℕ = prefix_len t (first_chunks 8 n (drop 8 bytes)) in
+      let later = eights_passed t h n (drop 8 bytes) in
+      let rest : drop (8 * m) (drop 8 bytes) ≡ drop (8 * (1 + m)) bytes =
+      drop-drop (8 * m) 8 bytes ∙ ap (λ (k : ℕ). drop k bytes) (omega arith) in
+      rw all (eight_more bytes (h (take 8 bytes) all) ∙ rw (← rest) (omega (arith, later)))
+  | inr none ↦ rw none (omega arith)
+]
 
--- the part from one place to `width` behind it
-pub full_part : (map : List ℕ) (at width : ℕ) → full (take (at + width - at) (drop at map)) ≡ full (take width (drop at map))
-full_part map at width = rw (add-sub_cancel_left at width)
+ones_are : (xs : List ℕ) → eight_full xs ≡ true → xs ≡ replicate 8 255
+ones_are xs e = same_text xs (replicate 8 255) (sym e)
 
--- full bytes passed, and the full ones that follow
-pub passed_more : (map : List ℕ) (from at width : ℕ) → at + width ≤ length map → ((k : ℕ) → from ≤ k → k < at → get_or map k 0 ≡ 255)
-    → full (take (at + width - at) (drop at map)) ≡ true → (k : ℕ) → from ≤ k → k < at + width → get_or map k 0 ≡ 255
-passed_more map from at width room passed e k h l = part (dec_lt k at)
-  where
-    part : Dec (k < at) → get_or map k 0 ≡ 255
-    part (yes b) = passed k h b
-    part (no b) =
-        let place : at + (k - at) ≡ k = omega arith in
-        let read : get_or (take width (drop at map)) (k - at) 0 ≡ get_or map k 0 =
-        get_or-take width (drop at map) (k - at) 0 (omega arith) ∙ get_or-drop at map (k - at) 0 ∙ ap (λ (i : ℕ). get_or map i 0) place in
-        sym read ∙ full_at (take width (drop at map)) (sym (full_part map at width) ∙ e) (k - at) (simp (length-take, length-drop) (omega arith))
+pub eights_and_rest : (bytes : List ℕ) (m n : ℕ) → m ≡ prefix_len eight_full (first_chunks 8 (length bytes / 8) bytes)
+    → n ≡ prefix_len byte_full (take (length bytes - 8 * m) (drop (8 * m) bytes)) → 8 * m + n ≡ prefix_len byte_full bytes
+eights_and_rest bytes m n e f =
+    let all : take (length bytes - 8 * m) (drop (8 * m) bytes) ≡ drop (8 * m) bytes =
+    take_all (length bytes - 8 * m) (drop (8 * m) bytes) (omega (arith, length-drop (8 * m) bytes)) in
+    rw (f, all, e) (sym (eights_passed eight_full ones_are (length bytes / 8) bytes))
+
+-- neither is longer than the bytes
+pub eights_fit : (bytes : List ℕ) (eights : List (List ℕ)) (m : ℕ) → length eights ≡ length bytes / 8 → m ≡ prefix_len eight_full eights
+    → 8 * m ≤ length bytes
+eights_fit bytes eights m e f = omega (arith, e, f, prefix_len-le-length eight_full eights)
+
+-- those behind them, as the code slices them
+pub rest_fit : (bytes : List ℕ) (k n : ℕ) → n ≡ prefix_len byte_full (take (length bytes - k) (drop k bytes)) → n ≤ length bytes - k
+rest_fit bytes k n e =
+    omega (arith, e, prefix_len-le-length byte_full (take (length bytes - k) (drop k bytes)), length-take (length bytes - k) (drop k bytes))
+
+-- ---- the weight of a bit
+
+pub weight_lem : (index : ℕ) → 1 * 2 ^ (index % 8) % 256 ≡ 2 ^ (index % 8)
+weight_lem index = shl_exact 1 (index % 8) 8 (omega arith) (omega arith) ∙ one-mul (2 ^ (index % 8))
 
 -- ---- one byte: 256 values, tested by computation
 
@@ -112,21 +133,27 @@ marked_in_byte map j =
 marked_below_clear : (map : List ℕ) (j : ℕ) → j % 8 < lowest_missing (get_or map (j / 8) 0 ∷ []) 8 → marked map j ≡ true
 marked_below_clear map j l = marked_in_byte map j ∙ lowest_below (get_or map (j / 8) 0 ∷ []) 8 (j % 8) l
 
-module _ (map : List ℕ) (total end near at : ℕ)
-    (ends : end ≡ min (total / 8) (length map)) (eights : Skipped map 0 end 8 near) (ones : Skipped map near end 1 at) where
+module _ (map : List ℕ) (total end at : ℕ) (ends : end ≡ min (total / 8) (length map))
+    (stop : at ≡ prefix_len byte_full (take end map)) where
+  within : at ≤ end
+  within = rw stop (omega (arith, prefix_len-le-length byte_full (take end map), length-take end map))
+
   passed-full : (k : ℕ) → k < at → get_or map k 0 ≡ 255
-  passed-full k l = part (dec_lt k near)
-    where
-      part : Dec (k < near) → get_or map k 0 ≡ 255
-      part (yes h) = eights.passed k (omega arith) h
-      part (no h) = ones.passed k (omega arith) l
+  passed-full k l =
+      sym (get_or-take end map k 0 (omega (arith, within))) ∙ eqb-true _ 255 (prefix_len_passes byte_full (take end map) k 0 (rw stop at l))
+
+  stopped : at < end → eqb (get_or map at 0) 255 ≡ false
+  stopped l =
+      let long : length (take end map) ≡ end = length-take end map ∙ omega arith in
+      let none = prefix_len_stops byte_full (take end map) 0 (rw (← stop, long) l) in
+      rw (← stop, get_or-take end map at 0 l) at none
 
   -- it stopped at a byte that is not full, behind the map's end, or at the byte that total ends in
   stopped-clear : get_or map at 0 < 256 → lowest_missing (get_or map at 0 ∷ []) 8 < total - 8 * at → lowest_missing (get_or map at 0 ∷ []) 8 < 8
   stopped-clear byte l = place (dec_lt at (length map)) (dec_lt at (total / 8))
     where
       place : Dec (at < length map) → Dec (at < total / 8) → lowest_missing (get_or map at 0 ∷ []) 8 < 8
-      place (yes h) (yes k) = clear_below_8 (get_or map at 0) byte (eqb-false (get_or map at 0) 255 (sym (full_one map at h) ∙ ones.stopped (omega arith)))
+      place (yes h) (yes k) = clear_below_8 (get_or map at 0) byte (eqb-false (get_or map at 0) 255 (stopped (omega arith)))
       place (yes h) (no k) = omega arith
       place (no h) k =
           let none : get_or map at 0 ≡ 0 = get_or-eq_default map 0 {n = at} (omega arith) in
@@ -134,7 +161,7 @@ module _ (map : List ℕ) (total end near at : ℕ)
 
   pub lowest_found : get_or map at 0 < 256
       → 8 * at + min (lowest_missing (get_or map at 0 ∷ []) 8) (total - 8 * at) ≡ lowest_missing map total
-  lowest_found byte = lowest_unique map total found (omega (arith, ones.within)) below here
+  lowest_found byte = lowest_unique map total found (omega (arith, within)) below here
     where
       bit : ℕ
       bit = lowest_missing (get_or map at 0 ∷ []) 8

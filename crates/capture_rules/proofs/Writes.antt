@@ -1,12 +1,12 @@
 -- A record that fits, and one that does not. Assumes nothing.
-use Prim.Native.Nat.{ℕ, ◌+◌, ◌-◌, ◌≤◌, ◌<◌}
+use Prim.Native.Nat.{ℕ, ◌+◌, ◌-◌, ◌≤◌}
 use native.Mathlib.Omega.{arith}
-use mathlib.Core.Path.{◌≡◌, refl, sym, ◌∙◌, ap, ap₂}
+use mathlib.Core.Path.{◌≡◌, refl, sym, ◌∙◌, ap}
 use mathlib.Core.Bool.{Bool, true, false, ◌&&◌}
-use mathlib.Core.List.{List, [], ◌∷◌, ◌++◌}
+use mathlib.Core.List.{List, ◌++◌}
 use lib.Dec.{leb}
-use lib.ListN.{length, get_or}
-use borrow.Author.Tests.{leb-true, le-leb, lt-leb}
+use lib.ListN.{length}
+use borrow.Author.Tests.{leb-true, le-leb}
 use Rattle.basis.specs.Numbers.{handled, does_not_fit}
 use Rattle.basis.specs.Bytes.{word_bytes, patched}
 use Rattle.basis.proofs.Choosing.{pick_yes, pick_no, and_left, and_right, leb_alike}
@@ -28,14 +28,6 @@ room size at count e =
       within = leb-true (at + header_length + count) size (and_right (leb count message_most) (leb (at + header_length + count) size) e);
     }
 
-pub too_long : (size at count : ℕ) → message_most < count → false ≡ fits size at count
-unfolding fits
-too_long size at count h = sym (ap (λ (t : Bool). t && leb (at + header_length + count) size) (lt-leb count message_most h))
-
-pub past_the_end : (size at count : ℕ) → count ≤ message_most → size < at → false ≡ fits size at count
-unfolding fits
-past_the_end size at count h p = sym (ap₂ ◌&&◌ (le-leb count message_most h) (lt-leb (at + header_length + count) size (omega arith)))
-
 pub by_room : (size at count : ℕ) → count ≤ message_most → at ≤ size → leb (header_length + count) (size - at) ≡ fits size at count
 unfolding fits
 by_room size at count h p =
@@ -43,10 +35,6 @@ by_room size at count h p =
     ∙ sym (ap (λ (t : Bool). t && leb (at + header_length + count) size) (le-leb count message_most h))
 
 -- ---- the record, in two pieces
-
-pub header_is : (to_device : Bool) (count mark : ℕ) (first second : List ℕ) → mark ≡ mark_of to_device → first ≡ word_bytes mark → second ≡ word_bytes count
-    → get_or first 0 0 ∷ get_or first 1 0 ∷ get_or second 0 0 ∷ get_or second 1 0 ∷ [] ≡ word_bytes (mark_of to_device) ++ word_bytes count
-header_is to_device count mark first second e₁ e₂ e₃ = rw (e₂, e₃, e₁) refl
 
 pub pieces : (to_device : Bool) (message buffer head first second : List ℕ) (at : ℕ) → at ≤ length buffer
     → head ≡ word_bytes (mark_of to_device) ++ word_bytes (length message) → first ≡ patched at head buffer

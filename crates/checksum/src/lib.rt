@@ -1,12 +1,12 @@
-// The PCP check (01, "The message and its check"): a 16-bit sum over bytes that shifts right over a
-// left-shifting table, as the published values have it.
+//! The PCP check: a 16-bit sum over bytes that shifts right over a left-shifting table, as the
+//! published values have it.
 #![tactic(auto)]
 
 mod fold;
 mod quads;
 
 ghost use Rattle.std.specs.Prelude.{◌≡◌, ◌<◌, ◌≤◌, length};
-ghost use Rattle.checksum.specs.Check.{entries, register, check_of, message_check};
+ghost use Rattle.checksum.specs.Check.{entry_of, register, check_of, message_check};
 
 // From so many bytes on an input is folded.
 const LONG: usize = 40;
@@ -37,41 +37,36 @@ const TABLE: [u16; 256] = [
     0x2E93, 0x3EB2, 0x0ED1, 0x1EF0,
 ];
 
-// The table, laid out on the stack once for each long input and lent from there on.
-fn table() -> [u16; 256]
-    ensures { result ≡ entries }
+// An entry of the table, which stays in read-only memory.
+#[tactic(auto, using(crate::proofs::Register::entry_at), unfolding(crate::specs::Check::entries, crate::specs::Check::listed, crate::specs::Check::entry_of, crate::specs::Check::doubled, basis::specs::Choice::pick))]
+fn entry(k: usize) -> u16
+    requires { k < 256 }
+    ensures { result ≡ entry_of k }
 {
-    TABLE
+    TABLE[k]
 }
 
 // The register after the bytes, byte by byte. It is held wider than its 16 bits because that runs faster.
-fn by_table(table: &[u16; 256], start: u32, bytes: &[u8]) -> u32
-    requires table_value { table.now ≡ entries }
-    requires start_bound { start < 65536 }
+fn by_table(start: u32, bytes: &[u8]) -> u32
+    requires { start < 65536 }
     ensures { result ≡ register start bytes.now }
 {
     let mut r = start;
-    let mut i = 0;
-    while i < bytes.len() {
-        let b = bytes[i] as u32;
-        let k = ((r ^ b) % 256) as usize;
-        r = (r / 256) ^ (table[k] as u32);
-        i += 1;
+    for &b in bytes {
+        r = (r >> 8) ^ entry(((r ^ b as u32) % 256) as usize) as u32;
     }
     r
 }
 
 // The register after many bytes: what is left of them when they are folded, by the table.
+#[tactic(auto, using(crate::proofs::Words::by_block, crate::proofs::Register::register_fits))]
 fn folded(start: u16, bytes: &[u8]) -> u16
     requires { 14 ≤ length bytes.now }
     ensures { result ≡ register start bytes.now }
 {
     let left = fold::fold(start, bytes);
-    let block = fold::block(left.low, left.high);
-    let at = left.at;
-    let table = table();
-    let r = by_table(&table, 0, &block);
-    (by_table(&table, r, &bytes[at..]) % 65536) as u16
+    let r = by_table(0, &left.block());
+    (by_table(r, &bytes[left.at..]) % 65536) as u16
 }
 
 // The register after the bytes; the way is chosen by their number alone.
@@ -85,21 +80,22 @@ fn run(start: u16, bytes: &[u8]) -> u16
     }
 }
 
-// The check of any bytes.
+/// The check of any bytes.
+#[tactic(auto, unfolding(crate::specs::Check::check_of))]
 pub fn check(bytes: &[u8]) -> u16
     ensures { result ≡ check_of bytes.now }
 {
     run(0, bytes)
 }
 
-// The check of a message, its check field (bytes 4 and 5) taken as 0000.
+/// The check of a message, its check field (bytes 4 and 5) taken as 0000.
+#[tactic(auto, using(crate::proofs::Register::check_by_parts))]
 pub fn message_check(message: &[u8]) -> u16
     ensures { result ≡ message_check message.now }
 {
-    let zeros = [0u8; 2];
-    let field = basis::least(message.len(), 4);
-    let rest = basis::least(message.len(), 6);
-    let before = run(0, &message[0..field]);
-    let within = run(before, &zeros[0..rest - field]);
+    let field = message.len().min(4);
+    let rest = message.len().min(6);
+    let before = run(0, &message[..field]);
+    let within = run(before, &[0; 2][..rest - field]);
     run(within, &message[rest..])
 }

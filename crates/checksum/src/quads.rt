@@ -1,5 +1,6 @@
-// Short inputs, four bytes at a time and with no table on the stack. What a byte leaves in the register
-// is looked up by its nibbles; a `match` on numbers becomes a table in read-only memory.
+// Short inputs, four bytes at a time. What a byte leaves in the register is looked up by its nibbles:
+// two functions with a `match` on numbers, of which the compiler makes a table of 16 bits for each use.
+// One function over two const tables of 64 bits proves too, and takes 7 to 16 per cent more at 36 to 39 bytes.
 ghost use Rattle.std.specs.Prelude.{◌≡◌, [], ◌∷◌, ◌*◌, ◌/◌, ◌%◌, ◌<◌, drop};
 ghost use Rattle.checksum.specs.Check.{step, register};
 ghost use Rattle.checksum.specs.Inner.{spread_of};
@@ -8,8 +9,7 @@ ghost use Rattle.checksum.specs.Inner.{spread_of};
 fn low(n: u64) -> u64
     ensures { result ≡ spread_of (n % 16) }
 {
-    let half = n % 16;
-    match half {
+    match n % 16 {
         0 => 0x0000000000000000,
         1 => 0x95C26AA234531021,
         2 => 0x0895D54468A62042,
@@ -33,8 +33,7 @@ fn low(n: u64) -> u64
 fn high(n: u64) -> u64
     ensures { result ≡ spread_of (n / 16 % 16 * 16) }
 {
-    let half = n / 16 % 16;
-    match half {
+    match n / 16 % 16 {
         0 => 0x0000000000000000,
         1 => 0x91E46C8026601231,
         2 => 0x00D9D9004CC02462,
@@ -56,6 +55,7 @@ fn high(n: u64) -> u64
 
 // What a number's lowest byte leaves in the register, and what of that is left one, two and three steps
 // later: 16 bits for each, the first lowest.
+#[tactic(auto, using(crate::proofs::Spreads::halves))]
 fn spread(n: u64) -> u64
     ensures { result ≡ spread_of (n % 256) }
 {
@@ -63,40 +63,28 @@ fn spread(n: u64) -> u64
 }
 
 // The register after four bytes. Its own two bytes count as changes of the first two.
+#[tactic(auto, using(crate::proofs::Spreads::quad_is))]
 fn quad(start: u32, a: u8, b: u8, c: u8, d: u8) -> u32
     requires { start < 65536 }
     ensures { result ≡ register start (a ∷ b ∷ c ∷ d ∷ []) }
 {
     let two = (a as u64 + b as u64 * 256) ^ (start as u64);
-    let first = spread(two) / 281474976710656;
-    let second = spread(two / 256) / 4294967296;
-    let third = spread(c as u64) / 65536;
+    let first = spread(two) >> 48;
+    let second = spread(two >> 8) >> 32;
+    let third = spread(c as u64) >> 16;
     let fourth = spread(d as u64);
     ((((first ^ second) ^ third) ^ fourth) % 65536) as u32
 }
 
 // The register after one byte: its entry is worked out.
+#[tactic(auto, using(crate::proofs::Spreads::step_closed, crate::proofs::Spreads::mixed_fits))]
 fn single(start: u32, b: u8) -> u32
     requires { start < 65536 }
     ensures { result ≡ step start b }
 {
     let index = (start % 256) ^ (b as u32);
-    let mixed = index ^ (index / 16);
-    (start / 256) ^ ((((mixed * 4096) % 65536) ^ (mixed * 32)) ^ mixed)
-}
-
-// The register after the bytes from a place on, one by one.
-fn singles(start: u32, bytes: &[u8], from: usize) -> u32
-    requires { start < 65536 }
-    ensures { result ≡ register start (drop from bytes.now) }
-{
-    let mut r = start;
-    let mut i = from;
-    while i < bytes.len() {
-        r = single(r, bytes[i]);
-        i += 1;
-    }
-    r
+    let mixed = index ^ (index >> 4);
+    (start >> 8) ^ ((((mixed * 4096) % 65536) ^ (mixed * 32)) ^ mixed)
 }
 
 // The register after the bytes.
@@ -104,10 +92,12 @@ pub(crate) fn run(start: u16, bytes: &[u8]) -> u16
     ensures { result ≡ register start bytes.now }
 {
     let mut r = start as u32;
-    let mut i = 0;
-    while 4 <= bytes.len() - i {
-        r = quad(r, bytes[i], bytes[i + 1], bytes[i + 2], bytes[i + 3]);
-        i += 4;
+    let (fours, rest) = bytes.as_chunks::<4>();
+    for &[a, b, c, d] in fours {
+        r = quad(r, a, b, c, d);
     }
-    (singles(r, bytes, i) % 65536) as u16
+    for &b in rest {
+        r = single(r, b);
+    }
+    (r % 65536) as u16
 }

@@ -1,25 +1,20 @@
--- Laws of reading: the fields of a message are its data exactly where the lengths agree, and what follows for a reader that tests no
--- more than that. Assumes nothing.
-use Prim.Native.Nat.{ℕ, ◌+◌, ◌≤◌}
-use native.Mathlib.Omega.{arith}
-use mathlib.Core.Path.{◌≡◌, refl, sym, ◌∙◌}
-use mathlib.Core.Bool.{Bool, true, false, ◌&&◌}
-use mathlib.Core.List.{List}
-use lib.Dec.{eqb}
-use lib.ListN.{length, drop, get_or, length-drop}
+-- Laws of reading: the fields of a message are its data exactly where the lengths agree. Assumes nothing.
+use Rattle.std.proofs.Common.{◌≡◌, ℕ, ◌+◌, Bool, true, false, ◌&&◌, ◌==◌, if◌then◌else◌, eqb, List, length, drop, get_or, refl, sym, ◌∙◌, Ok, Err}
 use lib.Seq.{get_or-drop}
-use borrow.Author.Tests.{ne_eqb}
+use Rattle.basis.specs.declared.refusal.Refusal.{Refusal}
 use Rattle.basis.specs.Choice.{pick}
 use Rattle.basis.specs.Bytes.{Bytes, part, same}
-use Rattle.basis.proofs.Choosing.{pick_yes, pick_no, by_cases, eqb_alike}
+use Rattle.basis.proofs.Choosing.{pick_yes, by_cases}
 use Rattle.basis.proofs.Lists.{part_rest, same_part, word_high, word_low}
 use Rattle.message.specs.Recognition.{recognition}
-use Rattle.message.specs.Messages.{DeviceMessage, device_fields, GatewayMessage, gateway_fields, Table, Reading, found, refused, device_row, gateway_row}
-use Rattle.message.specs.Messages.{to_device, to_gateway}
+use Rattle.message.specs.Messages.{DeviceMessage, device_fields, GatewayMessage, gateway_fields, device_row}
+use Rattle.message.specs.Messages.{gateway_row, to_device, to_gateway, Table, found, refused}
+use Rattle.message.specs.Enums.{reading_of}
 use Rattle.codec.specs.Codec.{read_of}
-use Rattle.message.specs.Enums.{valid_of}
-use Rattle.codec.specs.Parts.{data_of}
-use Rattle.codec.proofs.Frames.{recognised}
+
+pub bytes_drop : (k : ℕ) (m : List ℕ) → Bytes m → Bytes (drop k m)
+unfolding Bytes
+bytes_drop k m b i = rw (get_or-drop k m i 0) (b (k + i))
 
 -- ---- the data of the fields read from bytes starts as these do
 
@@ -52,52 +47,28 @@ module _ (code : ℕ) (d : List ℕ) (b : Bytes d) where
       P : GatewayMessage → Type 0
       P m = Starts d (to_gateway.content m)
 
--- ---- the reader's three answers, for either table
+-- ---- the reader's test: the lengths alone
 
-pub bytes_drop : (k : ℕ) (m : List ℕ) → Bytes m → Bytes (drop k m)
-unfolding Bytes
-bytes_drop k m b i = rw (get_or-drop k m i 0) (b (k + i))
+pub device_same : (code : ℕ) (d : List ℕ) → Bytes d → same (to_device.content (device_fields code d)) d
+    ≡ eqb (length (to_device.content (device_fields code d))) (length d)
+device_same code d b = same_part (to_device.content (device_fields code d)) d (device_starts code d b)
 
--- a length behind the 8 bytes, and with them
-behind : (n : ℕ) (m : List ℕ) → 8 ≤ length m → eqb n (length (drop 8 m)) ≡ eqb (8 + n) (length m)
-behind n m h =
-    eqb_alike n (length (drop 8 m)) (8 + n) (length m)
-    (λ (q : n ≡ length (drop 8 m)). omega (arith, length-drop 8 m))
-    (λ (q : 8 + n ≡ length m). omega (arith, length-drop 8 m))
+pub gateway_same : (code : ℕ) (d : List ℕ) → Bytes d → same (to_gateway.content (gateway_fields code d)) d
+    ≡ eqb (length (to_gateway.content (gateway_fields code d))) (length d)
+gateway_same code d b = same_part (to_gateway.content (gateway_fields code d)) d (gateway_starts code d b)
 
-module _ (t : Table) (s p : Bool) (m : List ℕ) where
-  -- the message that the bytes can only be
-  abbrev pub candidate : t.Message
-  candidate = t.fields (get_or m 3 0) (drop 8 m)
+-- what was recognised is read as its fields where they pass the tests, else it is bad data
+module _ (t : Table) {A : Type 0} (view : A → t.Message) (m : A) where
+  choice : (b : Bool) → reading_of view (if b then Ok m else Err Refusal.BadData) ≡ pick b (found (view m)) (refused 8)
+  unfolding pick
+  choice true = refl
+  choice false = refl
 
-  pub read_refused : (n : ℕ) → n ≡ recognition s p m → (n ≡ 0 → ⊥) → refused n ≡ read_of t s p m
+  pub whole_is : (s p : Bool) (bytes : List ℕ) → 0 ≡ recognition s p bytes → view m ≡ t.fields (get_or bytes 3 0) (drop 8 bytes)
+      → ((d : List ℕ) → Bytes d → same (t.content (t.fields (get_or bytes 3 0) d)) d ≡ eqb (length (t.content (t.fields (get_or bytes 3 0) d))) (length d))
+      → Bytes (drop 8 bytes)
+      → reading_of view (if t.valid (view m) && (length (t.content (view m)) == length (drop 8 bytes)) then Ok m else Err Refusal.BadData)
+      ≡ read_of t s p bytes
   unfolding read_of
-  read_refused n e h = rw (← e) (sym (pick_no (eqb n 0) _ (refused n) (ne_eqb n 0 h)))
-
-  -- a candidate is read where its fields are allowed and its data has the message's length
-  pub read_by : (n : ℕ) → Bytes m → Starts (drop 8 m) (t.content candidate) → n ≡ recognition s p m → n ≡ 0
-      → read_of t s p m ≡ pick (t.valid candidate && eqb (8 + length (t.content candidate)) (length m)) (found candidate) (refused 8)
-  unfolding read_of
-  read_by n b starts e z =
-      let long : 8 ≤ length m = (recognised s p m (sym e ∙ z)).whole in
-      let by_length : same (t.content candidate) (drop 8 m) ≡ eqb (8 + length (t.content candidate)) (length m) =
-      same_part (t.content candidate) (drop 8 m) starts ∙ behind (length (t.content candidate)) m long in
-      rw (← e, z, by_length) (pick_yes (eqb 0 0) _ (refused 0) refl)
-
-  -- what is read, by the test that the code makes of a candidate r
-  abbrev pub Tested : Reading t.Message → (valid : Bool) (len : ℕ) → Type 0
-  Tested r valid len =
-      ((valid && eqb (8 + len) (length m)) ≡ true → r ≡ read_of t s p m) × ((valid && eqb (8 + len) (length m)) ≡ false → refused 8 ≡ read_of t s p m)
-
-  -- the candidate as the code has it, r, with what the code tests of it
-  module _ (n : ℕ) (b : Bytes m) (starts : Starts (drop 8 m) (t.content candidate)) (e : n ≡ recognition s p m) (z : n ≡ 0)
-      (r : Reading t.Message) (valid : Bool) (len : ℕ) (is : r ≡ found candidate) (v : valid ≡ valid_of t r) (l : len ≡ length (data_of t r)) where
-    told : (valid && eqb (8 + len) (length m)) ≡ (t.valid candidate && eqb (8 + length (t.content candidate)) (length m))
-    told = rw (v, l, is)
-
-    -- kept where the test holds, bad where it fails
-    pub read_tested : Tested r valid len
-    read_tested = (
-      λ h. is ∙ sym (read_by n b starts e z ∙ pick_yes _ (found candidate) (refused 8) (sym told ∙ h)),
-      λ h. sym (read_by n b starts e z ∙ pick_no _ (found candidate) (refused 8) (sym told ∙ h)),
-    )
+  whole_is s p bytes r e same_is b =
+      choice _ ∙ rw (← r, same_is (drop 8 bytes) b, ← e) (sym (pick_yes (eqb 0 0) _ (refused 0) refl))

@@ -1,32 +1,28 @@
--- What the code's answers mean, where version text stands in a message, and what is known of a reading. Assumes nothing.
-use Rattle.std.specs.Prelude.{ℕ, ◌≡◌, true, List}
-use Rattle.message.specs.Messages.{Table, Reading, found, refused}
-use Rattle.message.specs.declared.ToGateway.{ToGateway}
-use Rattle.codec.specs.declared.Written.{Written}
-use Rattle.codec.specs.Codec.{Sent}
+-- What the code's answers mean, and what is known of a reading. Assumes nothing.
+use Rattle.std.specs.Prelude.{ℕ, ◌+◌, Bool, List, ◌∷◌, length, ltb, take, Result, Ok, Err}
+use Rattle.basis.specs.Choice.{pick}
+use Rattle.basis.specs.Bytes.{word_bytes, over, patched}
+use Rattle.checksum.specs.Check.{message_check}
+use Rattle.message.specs.Recognition.{protocol_version}
+use Rattle.basis.specs.declared.refusal.Refusal.{Refusal}
+use Rattle.basis.specs.Refusals.{number_of}
+use Rattle.basis.specs.Numbers.{handled, bad_data, short_reply}
+use Rattle.codec.specs.Codec.{Sent, unsent}
 
--- where the version text stands in a message to the gateway: 9 where a result stands before it, else 8; a message without version text
--- gives 8, which nobody reads
-abbrev pub version_place : ToGateway → ℕ
-version_place (ToGateway.Refused number) = 8
-version_place (ToGateway.QueryReply result) = 9
-version_place (ToGateway.AnnounceReply result) = 8
-version_place (ToGateway.FragmentRequest index) = 8
-version_place (ToGateway.DownloadReport result) = 8
-version_place (ToGateway.ExecuteReply result) = 8
-version_place (ToGateway.ResultReport result) = 9
+-- what a writer answered, with the buffer that it left: the length of the message, or the number why there is none
+abbrev pub sent : Result ℕ Refusal → List ℕ → Sent
+sent (Ok n) buffer = record { number = handled; length = n; buffer = buffer }
+sent (Err refusal) buffer = unsent (number_of refusal) buffer
 
--- what a writer answered, with the buffer that it left
-abbrev pub sent : Written → List ℕ → Sent
-sent w buffer = record { number = w.number; length = w.length; buffer = buffer }
+-- a buffer with header and check put round so many bytes of data
+abbrev with_header : (code len : ℕ) → List ℕ → List ℕ
+with_header code len o = patched 0 (0xFF ∷ 0xFE ∷ protocol_version ∷ code ∷ 0 ∷ 0 ∷ word_bytes len) o
 
-module _ (t : Table) where
-  -- what may be said: a message that the table allows, or why there is none
-  abbrev pub Sayable : Reading t.Message → Type 0
-  Sayable (found m) = t.valid m ≡ true
-  Sayable (refused n) = Unit {0}
+abbrev pub with_frame : (code len : ℕ) → List ℕ → List ℕ
+with_frame code len o = patched 4 (word_bytes (message_check (take (8 + len) (with_header code len o)))) (with_header code len o)
 
-  -- the message that was read has this code; a refusal may have any
-  abbrev pub OfCode : (code : ℕ) → Reading t.Message → Type 0
-  OfCode code (found m) = t.code m ≡ code
-  OfCode code (refused n) = Unit {0}
+-- what writing a message of these bytes gives
+abbrev pub write_outcome : (room : ℕ) (allowed : Bool) (bytes buffer : List ℕ) → Sent
+write_outcome room allowed bytes buffer =
+    pick (ltb (length buffer) room) (unsent short_reply buffer)
+    (pick allowed (record { number = 0; length = length bytes; buffer = over bytes buffer }) (unsent bad_data buffer))

@@ -1,3 +1,2 @@
 pub mod Codec
 pub mod Answers
-pub mod Parts

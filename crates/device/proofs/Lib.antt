@@ -1,7 +1,5 @@
-pub mod Announced
-pub mod Executed
-pub mod Fragments
-pub mod Readings
-pub mod Replying
+pub mod Says
+pub mod Read
 pub mod Storing
-pub mod Wanted
+pub mod Stated
+pub mod Kept

@@ -1,10 +1,14 @@
-// The device's end of an upgrade ("head" in 01): the calls that a host makes of it.
+//! The device's end of an upgrade: a record that keeps the rules, its calls as methods, and the
+//! same calls of a record as plain data.
 #![tactic(auto)]
 
+mod calls;
 mod handlers;
-mod replies;
+mod messages;
+mod sound;
 mod steps;
 
-pub use device_record::{Device, Made};
+pub use calls::{give_digest, install_finished, next_message, receive};
+pub use device_record::{Condition, Device, Made, Phase};
 pub use device_rules::{Answer, DigestAnswer, Finished};
-pub use steps::{give_digest, install_finished, next_message, receive};
+pub use sound::SoundDevice;

@@ -1,161 +1,139 @@
-// The calls: a message is given and led to its handler, the next one is asked for, the installer
-// ends, a digest is given.
-ghost use Rattle.std.specs.Prelude.{◌≡◌, eqb, ltb, drop, get_or};
-ghost use Rattle.basis.specs.Choice.{pick};
-ghost use Rattle.basis.specs.Numbers.{bad_record};
-ghost use Rattle.basis.specs.Bytes.{part};
-ghost use Rattle.bitmap.specs.Bitmap.{lowest_missing};
-ghost use Rattle.message.specs.Messages.{to_device};
-ghost use Rattle.message.specs.Enums.{device_message, gateway_message};
-ghost use Rattle.codec.specs.Answers.{sent, OfCode};
-ghost use Rattle.device_record.specs.Record.{reporting};
-ghost use Rattle.device_rules.specs.Rules.{handle, receive_of, wanted, next_message_of, install_finished_of, give_digest_of};
-ghost use Rattle.device_rules.specs.Answers.{after_call};
-ghost use Rattle.device_rules.specs.Inner.{Guarded};
+//! The calls of a device whose record keeps the rules: a message is given and led to its handler,
+//! the next one is asked for, the installer ends, a digest is given.
+ghost use Rattle.std.specs.Prelude.{◌≡◌, true, IfOk, IfErr, OnErr};
+ghost use Rattle.message.specs.Messages.{to_gateway};
+ghost use Rattle.message.specs.Enums.{gateway_message, reading_of};
+ghost use Rattle.codec.specs.Answers.{sent};
+ghost use Rattle.device_rules.specs.Rules.{receive_of, wanted, next_message_of, install_finished_of, give_digest_of};
+ghost use Rattle.device.specs.Left.{as_held, refused_state, left, finished_by, given_by};
 
-use crate::handlers::{
-    on_announce, on_download_reply, on_execute, on_fragment, on_query, on_result_reply,
-};
-use crate::replies::refused;
-use basis::number::{BAD_RECORD, HANDLED, NO_USE};
-use codec::Written;
-use device_record::Device;
-use device_rules::{Answer, DigestAnswer, Finished};
+use crate::messages::say;
+use crate::sound::SoundDevice;
+use basis::{Refusal, require};
+use device_record::{Condition, Device, Phase, finishing, giving, memory_ok};
 use message::{ToDevice, ToGateway};
 
-// A reading is led to the handler of its message's code; a refusal leaves by the exit of whatever
-// handler it comes to.
-fn handle(
-    device: Device,
-    condition: u8,
-    reading: ToDevice,
-    message: &[u8],
-    image: &mut [u8],
-    map: &mut [u8],
-    reply: &mut [u8],
-) -> Answer
-    requires guarded { Guarded device condition image.old map.old reply.old }
-    requires of_code { OfCode to_device (get_or message.now 3 0) (device_message reading (part message.now 8 16) (drop 11 message.now)) }
-    ensures { after_call result image.new map.new reply.new
-        ≡ handle device image.old map.old reply.old condition (device_message reading (part message.now 8 16) (drop 11 message.now)) }
-{
-    let code = basis::byte_at(message, codec::CODE);
-    match code {
-        19 => on_query(device, reading, reply),
-        20 => {
-            let version = message::version_at(message, codec::DATA);
-            on_announce(device, condition, reading, version, image, map, reply)
+impl SoundDevice {
+    /// A message is given. The answer is the length of the reply in bytes at the front of its
+    /// buffer, 0 where there is none. Where the message is refused nothing is written and nothing
+    /// changes, but for `RepeatDiffers`, which leaves the phase Failed. The refusals in order:
+    /// `ShortReply`, `UnknownCondition`, `BadMemory`, why the bytes are no message, then the
+    /// message's own.
+    pub fn receive(
+        &mut self,
+        supported: bool,
+        pcp: bool,
+        condition: u8,
+        message: &[u8],
+        image: &mut [u8],
+        map: &mut [u8],
+        reply: &mut [u8],
+    ) -> Result<usize, Refusal>
+        ensures rule { left result self.new image.new map.new reply.new
+            ≡ receive_of self.old image.old map.old reply.old supported pcp condition message.now }
+        ensures err { IfErr result (λ refusal. as_held self.new image.new map.new reply.new
+            ≡ refused_state refusal (as_held self.old image.old map.old reply.old)) }
+    {
+        self.take(supported, pcp, condition, message, image, map, reply)
+    }
+
+    // The same, as the rule says it.
+    #[tactic(auto, using(crate::proofs::Read::read_valid, crate::proofs::Stated::known_as_read, crate::proofs::Stated::code_as_stated, crate::proofs::Stated::unknown_is_13), unfolding(basis::specs::Choice::pick, basis::specs::Choice::refusal, device_rules::specs::Rules::handle, device_rules::specs::Rules::receive_of))]
+    fn take(
+        &mut self,
+        supported: bool,
+        pcp: bool,
+        condition: u8,
+        message: &[u8],
+        image: &mut [u8],
+        map: &mut [u8],
+        reply: &mut [u8],
+    ) -> Result<usize, Refusal>
+        ensures { left result self.new image.new map.new reply.new
+            ≡ receive_of self.old image.old map.old reply.old supported pcp condition message.now }
+    {
+        require(Device::REPLY_ROOM <= reply.len(), Refusal::ShortReply)?;
+        let stated = Condition::try_from(condition)?;
+        require(memory_ok(self.as_record(), image, map), Refusal::BadMemory)?;
+        let given = codec::read_to_device(supported, pcp, message)?;
+        match given {
+            ToDevice::Query => self.on_query(&given, reply),
+            ToDevice::Announce(_) => self.on_announce(stated, &given, image, map, reply),
+            ToDevice::Fragment { .. } => self.on_fragment(&given, image, map),
+            ToDevice::DownloadReply(_) => self.on_download_reply(&given),
+            ToDevice::Execute => self.on_execute(stated, &given, reply),
+            ToDevice::ResultReply(_) => self.on_result_reply(&given),
         }
-        21 => on_fragment(device, reading, codec::fragment_data(message), image, map),
-        22 => on_download_reply(device, reading),
-        23 => on_execute(device, condition, reading, reply),
-        _ => on_result_reply(device, reading),
     }
-}
 
-// A message is given. On 0 the reply fills the front of its buffer; on any other number nothing is
-// written; with the number 23 the record that is returned is in Failed.
-pub fn receive(
-    device: Device,
-    supported: bool,
-    pcp: bool,
-    condition: u8,
-    message: &[u8],
-    image: &mut [u8],
-    map: &mut [u8],
-    reply: &mut [u8],
-) -> Answer
-    ensures { after_call result image.new map.new reply.new
-        ≡ receive_of device image.old map.old reply.old supported pcp condition message.now }
-{
-    let number = device_record::receiving(device, condition, image, map, reply);
-    if number != HANDLED {
-        return refused(device, number);
-    }
-    let reading = codec::read_to_device(supported, pcp, message);
-    handle(device, condition, reading, message, image, map, reply)
-}
-
-// The version that the message of a phase carries: what runs in a report, else the target.
-fn spoken_version(device: Device) -> [u8; 16]
-    ensures { result ≡ pick (eqb device.phase reporting) device.running device.fields.version }
-{
-    if device.phase == Device::REPORTING {
-        let running = device.running;
-        return running;
-    }
-    let fields = device.fields;
-    let target = fields.version;
-    target
-}
-
-// The next fragment, where one is missing.
-fn wanted_fragment(total: u16, map: &[u8]) -> ToGateway
-    ensures { result ≡ pick (ltb (lowest_missing map.now total) total)
-        (ToGateway.FragmentRequest (lowest_missing map.now total)) (ToGateway.Refused bad_record) }
-{
-    let index = bitmap::lowest_missing(map, total as usize);
-    if index < total as usize {
-        ToGateway::FragmentRequest(index as u16)
-    } else {
-        ToGateway::Refused(BAD_RECORD)
-    }
-}
-
-// The message of the phase. 9 where it has none, 29 where no fragment is missing in Loading.
-fn wanted(device: Device, map: &[u8]) -> ToGateway
-    ensures { gateway_message result (pick (eqb device.phase reporting) device.running device.fields.version) ≡ wanted device map.now }
-{
-    let phase = device.phase;
-    match phase {
-        Device::LOADING => {
-            let fields = device.fields;
-            wanted_fragment(fields.total, map)
+    // The message of the phase, or why there is none.
+    #[tactic(auto, unfolding(basis::specs::Choice::pick, basis::specs::Choice::one_of, message::specs::Messages::gateway_row, message::specs::Limits::is_word, device_record::specs::Record::record_ok, device_rules::specs::Rules::wanted))]
+    fn wanted(&self, map: &[u8]) -> Result<ToGateway, Refusal>
+        ensures rule { reading_of gateway_message result ≡ wanted self.now map.now }
+        ensures valid { IfOk result (λ message. to_gateway.valid (gateway_message message) ≡ true) }
+    {
+        let kept = self.as_record();
+        let running = kept.running;
+        let target = kept.fields.version;
+        match self.phase() {
+            Phase::Loading => {
+                let total = usize::from(kept.fields.total);
+                let index = bitmap::lowest_missing(map, total);
+                if index < total {
+                    Ok(ToGateway::FragmentRequest {
+                        version: target,
+                        index: index as u16,
+                    })
+                } else {
+                    Err(Refusal::BadRecord)
+                }
+            }
+            Phase::Loaded => Ok(ToGateway::DownloadReport(0x00)),
+            Phase::Failed => Ok(ToGateway::DownloadReport(0x07)),
+            Phase::Reporting => Ok(ToGateway::ResultReport {
+                result: kept.outcome,
+                version: running,
+            }),
+            _ => Err(Refusal::NoUse),
         }
-        Device::LOADED => ToGateway::DownloadReport(0x00),
-        Device::FAILED => ToGateway::DownloadReport(0x07),
-        Device::REPORTING => ToGateway::ResultReport(device.outcome),
-        _ => ToGateway::Refused(NO_USE),
     }
-}
 
-// The device is asked for its next message.
-pub fn next_message(device: Device, image: &[u8], map: &[u8], reply: &mut [u8]) -> Written
-    ensures { sent result reply.new ≡ next_message_of device image.now map.now reply.old }
-{
-    let number = device_record::asking(device, image, map, reply);
-    if number != HANDLED {
-        return Written { number, length: 0 };
+    /// The next message is asked for. The answer is its length in bytes at the front of the
+    /// buffer. The refusals in order: `ShortReply`, `BadMemory`, `BadRecord` where Loading finds
+    /// no fragment missing in the map, `NoUse` where the phase has nothing to say; then nothing is
+    /// written.
+    #[tactic(auto, unfolding(basis::specs::Choice::pick, basis::specs::Choice::refusal, codec::specs::Codec::said, device_rules::specs::Rules::next_message_of))]
+    pub fn next_message(&self, image: &[u8], map: &[u8], reply: &mut [u8]) -> Result<usize, Refusal>
+        ensures rule { sent result reply.new
+            ≡ next_message_of self.now image.now map.now reply.old }
+        ensures err { OnErr result (reply.new ≡ reply.old) }
+    {
+        require(Device::REPLY_ROOM <= reply.len(), Refusal::ShortReply)?;
+        require(memory_ok(self.as_record(), image, map), Refusal::BadMemory)?;
+        say(self.wanted(map)?, reply)
     }
-    let message = wanted(device, map);
-    let version = spoken_version(device);
-    codec::say_to_gateway(message, version, reply)
-}
 
-// The installer has ended with a code.
-pub fn install_finished(device: Device, code: u8) -> Finished
-    ensures { result ≡ install_finished_of device code }
-{
-    let number = device_record::finishing(device, code);
-    if number != HANDLED {
-        return Finished { number, device };
+    /// The installer has ended with a code. With 00 the target runs from now on. `NoUse` outside
+    /// Installing, `BadInstallCode` for an unknown code; then nothing changes.
+    #[tactic(auto, unfolding(basis::specs::Choice::pick, basis::specs::Choice::refusal, device_rules::specs::Rules::install_finished_of))]
+    pub fn install_finished(&mut self, code: u8) -> Result<(), Refusal>
+        ensures rule { finished_by result self.new ≡ install_finished_of self.old code }
+        ensures err { OnErr result (self.new ≡ self.old) }
+    {
+        finishing(self.as_record(), code)?;
+        self.report(code);
+        Ok(())
     }
-    Finished {
-        number: HANDLED,
-        device: device_record::with_outcome(device, code),
-    }
-}
 
-// A digest is given, which the completed bytes of the download held must have.
-pub fn give_digest(device: Device, digest: [u8; 16]) -> DigestAnswer
-    ensures { result ≡ give_digest_of device digest }
-{
-    let number = device_record::giving(device);
-    if number != HANDLED {
-        return DigestAnswer { number, device };
-    }
-    DigestAnswer {
-        number: HANDLED,
-        device: device_record::with_digest(device, digest),
+    /// A digest is given, which the completed bytes of the download held must have. `NoUse` outside
+    /// Loading; then nothing changes.
+    #[tactic(auto, unfolding(basis::specs::Choice::pick, basis::specs::Choice::refusal, device_rules::specs::Rules::give_digest_of))]
+    pub fn give_digest(&mut self, digest: [u8; 16]) -> Result<(), Refusal>
+        ensures rule { given_by result self.new ≡ give_digest_of self.old digest }
+        ensures err { OnErr result (self.new ≡ self.old) }
+    {
+        giving(self.as_record())?;
+        self.expect(digest);
+        Ok(())
     }
 }

@@ -1,4 +1,3 @@
 pub mod Maps
 pub mod Ranges
-pub mod Records
 pub mod Cases

@@ -1,2 +1,4 @@
 pub mod Record
 pub mod Cases
+pub mod Phases
+pub mod Conditions

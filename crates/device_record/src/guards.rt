@@ -1,66 +1,68 @@
-// What each call is refused for before anything is done: the number of the first test that fails,
-// else 0.
+//! What each call is refused for before anything is done: the first test that fails, in order.
 ghost use Rattle.std.specs.Prelude.{◌≡◌, [], ◌∷◌};
 ghost use Rattle.basis.specs.Choice.{refusal};
 ghost use Rattle.basis.specs.Numbers.{bad_memory, bad_record};
+ghost use Rattle.basis.specs.Refusals.{answered};
 ghost use Rattle.device_record.specs.Record.{record_ok, memory_ok, receive_refusal, ask_refusal, finish_refusal, give_refusal};
 
 use crate::Device;
 use crate::record::{condition_ok, memory_ok, record_ok};
-use basis::number::{
-    BAD_INSTALL_CODE, BAD_MEMORY, BAD_RECORD, HANDLED, NO_USE, SHORT_REPLY, UNKNOWN_CONDITION,
-};
-use basis::unless;
+use basis::{Refusal, require};
 
 // The record and the buffers that are lent.
-fn lent(device: Device, image: &[u8], map: &[u8]) -> u8
-    ensures { result ≡ refusal ((bad_record, record_ok device) ∷ (bad_memory, memory_ok device image.now map.now) ∷ []) }
+#[tactic(auto, unfolding(basis::specs::Choice::pick, basis::specs::Choice::refusal))]
+fn lent(device: Device, image: &[u8], map: &[u8]) -> Result<(), Refusal>
+    ensures { answered result
+        ≡ refusal
+        ((bad_record, record_ok device) ∷ (bad_memory, memory_ok device image.now map.now) ∷ []) }
 {
-    let kept = record_ok(device);
-    let held = memory_ok(device, image, map);
-    unless(kept, BAD_RECORD, unless(held, BAD_MEMORY, HANDLED))
+    require(record_ok(device), Refusal::BadRecord)?;
+    require(memory_ok(device, image, map), Refusal::BadMemory)
 }
 
-// A message is given: 15, 13, 29, 14.
-pub fn receiving(device: Device, condition: u8, image: &[u8], map: &[u8], reply: &[u8]) -> u8
-    ensures { result ≡ receive_refusal device condition image.now map.now reply.now }
+/// Why a message is not taken: the reply buffer is short (15), the condition is unknown (13), the
+/// record breaks the rules (29), image or map is too short (14).
+#[tactic(auto, unfolding(basis::specs::Choice::pick, basis::specs::Choice::refusal))]
+pub fn receiving(
+    device: Device,
+    condition: u8,
+    image: &[u8],
+    map: &[u8],
+    reply: &[u8],
+) -> Result<(), Refusal>
+    ensures { answered result ≡ receive_refusal device condition image.now map.now reply.now }
 {
-    let room = Device::REPLY_ROOM <= reply.len();
-    let known = condition_ok(condition);
-    unless(
-        room,
-        SHORT_REPLY,
-        unless(known, UNKNOWN_CONDITION, lent(device, image, map)),
-    )
+    require(Device::REPLY_ROOM <= reply.len(), Refusal::ShortReply)?;
+    require(condition_ok(condition), Refusal::UnknownCondition)?;
+    lent(device, image, map)
 }
 
-// The next message is asked for: 15, 29, 14.
-pub fn asking(device: Device, image: &[u8], map: &[u8], reply: &[u8]) -> u8
-    ensures { result ≡ ask_refusal device image.now map.now reply.now }
+/// Why the next message cannot be asked for: the reply buffer is short (15), the record breaks the
+/// rules (29), image or map is too short (14).
+#[tactic(auto, unfolding(basis::specs::Choice::pick, basis::specs::Choice::refusal))]
+pub fn asking(device: Device, image: &[u8], map: &[u8], reply: &[u8]) -> Result<(), Refusal>
+    ensures { answered result ≡ ask_refusal device image.now map.now reply.now }
 {
-    let room = Device::REPLY_ROOM <= reply.len();
-    unless(room, SHORT_REPLY, lent(device, image, map))
+    require(Device::REPLY_ROOM <= reply.len(), Refusal::ShortReply)?;
+    lent(device, image, map)
 }
 
-// The installer's end: 29, 9, 16.
-pub fn finishing(device: Device, code: u8) -> u8
-    ensures { result ≡ finish_refusal device code }
+/// Why the installer's end is not taken: the record breaks the rules (29), the phase is not
+/// Installing (9), the installer's code is unknown (16).
+#[tactic(auto, unfolding(basis::specs::Choice::pick, basis::specs::Choice::refusal))]
+pub fn finishing(device: Device, code: u8) -> Result<(), Refusal>
+    ensures { answered result ≡ finish_refusal device code }
 {
-    let kept = record_ok(device);
-    let installing = device.phase == Device::INSTALLING;
-    let known = message::install_code(code);
-    unless(
-        kept,
-        BAD_RECORD,
-        unless(installing, NO_USE, unless(known, BAD_INSTALL_CODE, HANDLED)),
-    )
+    require(record_ok(device), Refusal::BadRecord)?;
+    require(device.phase == Device::INSTALLING, Refusal::NoUse)?;
+    require(message::install_code(code), Refusal::BadInstallCode)
 }
 
-// A digest is given: 29, 9.
-pub fn giving(device: Device) -> u8
-    ensures { result ≡ give_refusal device }
+/// Why a digest is not taken: the record breaks the rules (29), the phase is not Loading (9).
+#[tactic(auto, unfolding(basis::specs::Choice::pick, basis::specs::Choice::refusal))]
+pub fn giving(device: Device) -> Result<(), Refusal>
+    ensures { answered result ≡ give_refusal device }
 {
-    let kept = record_ok(device);
-    let loading = device.phase == Device::LOADING;
-    unless(kept, BAD_RECORD, unless(loading, NO_USE, HANDLED))
+    require(record_ok(device), Refusal::BadRecord)?;
+    require(device.phase == Device::LOADING, Refusal::NoUse)
 }

@@ -1,4 +1,5 @@
-// What is claimed of the definitions, each claim the contract of a function: so the check asks for its proof.
+// What is claimed of the definitions, each claim the contract of a function: so the check asks for
+// its proof.
 ghost use Rattle.device_record.specs.Cases.{RecordCases};
 
 /// The numbers that a record may hold, records made, and the records that keep the rules are those

@@ -6,7 +6,7 @@ use mathlib.Core.Bool.{Bool, true, false, not}
 use mathlib.Core.List.{List, [], ◌∷◌}
 use lib.Dec.{ltb}
 use lib.ListN.{length}
-use borrow.Author.Tests.{eqb-true, ltb-true, le-ltb, lt-ltb, not-true, not-false}
+use borrow.Author.Tests.{eqb-true, ltb-true, lt-ltb, not-true, not-false}
 use Rattle.basis.specs.Choice.{refusal}
 use Rattle.basis.specs.Numbers.{bad_index, bad_fragment_length, repeat_differs}
 use Rattle.basis.specs.Bytes.{same}
@@ -44,18 +44,11 @@ module _ (f : Fields) (last index : ℕ) (image map bytes : List ℕ) where
   abbrev number : ℕ
   number = fragment_refusal f last index image map bytes
 
-  pub past_total : f.total ≤ index → number ≡ bad_index
-  unfolding fragment_refusal
-  past_total h = fails bad_index (ltb index f.total) _ (le-ltb index f.total h)
-
   module _ (below : index < f.total) where
     within : number
         ≡ refusal ((bad_fragment_length, fragment_length f index (length bytes)) ∷ (repeat_refusal f last index image bytes, not (marked map index)) ∷ [])
     unfolding fragment_refusal
     within = passes bad_index (ltb index f.total) _ (lt-ltb index f.total below)
-
-    pub wrong_length : fragment_length f index (length bytes) ≡ false → number ≡ bad_fragment_length
-    wrong_length e = within ∙ fails bad_fragment_length _ _ e
 
     module _ (long : fragment_length f index (length bytes) ≡ true) where
       whole : number ≡ refusal ((repeat_refusal f last index image bytes, not (marked map index)) ∷ [])

@@ -1,5 +1,7 @@
-// The device's rules: what each call leaves, with cases and claims, each the contract of a function. The code is
-// in device, which is proved equal to them; here are otherwise only the structs that it answers with.
+//! The device's rules: what each call leaves, with cases and claims, each the contract of a
+//! function. The code is in `device`, which is proved equal to them; here are otherwise only the
+//! structs that it answers with. They hold a number and no Result, and are three, since `after_call`,
+//! `install_finished_of` and `give_digest_of` name them.
 #![tactic(auto)]
 
 ghost use Rattle.device_rules.specs.Cases.{DeviceCases};
@@ -8,23 +10,24 @@ ghost use Rattle.device_rules.specs.RefusedMaking.{RefusedMaking};
 
 use device_record::Device;
 
-// What a given message is answered with: the number, the length of the reply, and the device after it.
-#[derive(Clone, Copy)]
+/// What a given message is answered with: the number, the length of the reply in bytes, and the
+/// device after it.
+#[derive(Clone, Copy, Debug, PartialEq, Eq)]
 pub struct Answer {
     pub number: u8,
     pub length: usize,
     pub device: Device,
 }
 
-// What a digest that is given is answered with: the number, and the device after it.
-#[derive(Clone, Copy)]
+/// What a digest that is given is answered with: the number, and the device after it.
+#[derive(Clone, Copy, Debug, PartialEq, Eq)]
 pub struct DigestAnswer {
     pub number: u8,
     pub device: Device,
 }
 
-// What the installer's end is answered with: the number, and the device after it.
-#[derive(Clone, Copy)]
+/// What the installer's end is answered with: the number, and the device after it.
+#[derive(Clone, Copy, Debug, PartialEq, Eq)]
 pub struct Finished {
     pub number: u8,
     pub device: Device,

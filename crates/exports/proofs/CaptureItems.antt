@@ -26,10 +26,6 @@ kind_found : (to_device : Bool) (start count : ℕ) → kind_of (Item.found to_d
 kind_found true start count = refl
 kind_found false start count = refl
 
-pub kind_told : {item : Item} {to_device d : Bool} {start count : ℕ} → item ≡ Item.found to_device start count → to_device ≡ d
-    → direction_kind d ≡ kind_of item
-kind_told {to_device = to_device} {start = start} {count = count} e same = sym (ap kind_of e ∙ kind_found to_device start count ∙ ap direction_kind same)
-
 direction_is : (a b : Bool) → direction_kind a ≡ direction_kind b → a ≡ b
 direction_is true true e = refl
 direction_is true false e = absurd (omega arith)

@@ -174,7 +174,7 @@ records_carried =
           (ap (λ (k : Left). device_at k.bytes) (pick_yes _ _ _ (eq-eqb _ 16 l))
           ∙ carried bytes _ room (given-texts (device_at bytes) (at_texts bytes) (part digest 0 16) (length_part digest 0 16))
           ∙ ap (λ (xs : List ℕ). (device.give_digest_of (device_at bytes) xs).device) (digest_whole digest l));
-      device_no_digest = λ bytes digest room n. ap (λ (k : Left). device_at k.bytes) (sym (device_no_digest bytes bytes room digest n));
+      device_no_digest = λ bytes digest room n. ap (λ (k : Left). device_at k.bytes) (sym (device_no_digest bytes room digest n));
       gateway_start = λ bytes version size content checked room e.
           with_room (λ (k : Left). gateway_at k.bytes ≡ (start_of (text_of version) size content (fact checked)).gateway) gateway_length bytes _ _ room
           (ap gateway_at (pick_yes _ _ bytes (eq-eqb _ 0 e)) ∙ gateway_carried bytes _ room

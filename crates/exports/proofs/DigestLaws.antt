@@ -7,33 +7,19 @@ use mathlib.Core.List.{List, [], ◌∷◌}
 use lib.ListN.{length}
 use borrow.Author.Tests.{eq-eqb, leb-true}
 use Rattle.basis.specs.Numbers.{handled}
-use Rattle.basis.specs.Bytes.{patched}
 use Rattle.basis.proofs.Choosing.{by_cases, pick_yes}
-use Rattle.basis.proofs.Lists.{length_part, filled, length_over}
-use Rattle.md5_rules.specs.Md5.{md5_of, digest_of}
+use Rattle.basis.proofs.Lists.{length_part, length_over}
+use Rattle.md5_rules.specs.Md5.{md5_of}
 use Rattle.md5_rules.specs.declared.Md5.{Md5}
 use Rattle.md5_rules.specs.Stream.{new_of, feed_of, finish_of, fed_pieces, joined}
 use Rattle.md5_rules.proofs.Feeding.{any_cut}
 use Rattle.md5_layout.specs.Layout.{state_at, state_bytes, state_length, Kept, state_kept}
 use Rattle.md5_layout.proofs.Identity.{state_identity, feed_block}
 use Rattle.exports.specs.Exports.{Left}
-use Rattle.exports.specs.Digests.{digest_length, left, digest_written, md5_digest_of, md5_new_of, md5_feed_of, md5_finish_of, fed_through, Digests}
+use Rattle.exports.specs.Digests.{digest_length, digest_written, md5_digest_of, md5_new_of, md5_feed_of, md5_finish_of, fed_through, Digests}
 use Rattle.exports.proofs.ExportLaws.{long_enough}
 
 -- ---- what the functions leave
-
-pub state_left : (bytes : List ℕ) (k : Kept) (s t : Md5) → k ≡ state_kept bytes s → s ≡ t → left k ≡ left (state_kept bytes t)
-state_left bytes k s t e q = (λ i. left (e i)) ∙ (λ i. left (state_kept bytes (q i)))
-
-pub digest_left : (digest after sum new : List ℕ) → length digest ≡ digest_length → length new ≡ digest_length → after ≡ patched 0 sum digest → sum ≡ new
-    → ◌≡◌ {A = Left} (record { answer = handled; bytes = after }) (digest_written digest new)
-digest_left digest after sum new l n e q =
-    let given : after ≡ new = e ∙ ap (λ (xs : List ℕ). patched 0 xs digest) q ∙ filled new digest (omega arith) in
-    (λ i. record { answer = handled; bytes = given i }) ∙ sym (pick_yes _ _ _ (eq-eqb _ 16 l))
-
-pub finish_length : (s : Md5) → length (finish_of s) ≡ digest_length
-unfolding finish_of digest_of
-finish_length s = refl
 
 -- ---- the state that a call left is the one that the next call finds
 

@@ -1,2 +1,2 @@
-pub mod Readings
-pub mod Handling
+pub mod Says
+pub mod Totals

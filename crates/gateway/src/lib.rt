@@ -1,11 +1,14 @@
-// The gateway's end of an upgrade (platform): the calls that a host makes of it. One package, one
-// device.
+//! The gateway's end of an upgrade (platform): the calls that a host makes of it. One package, one
+//! device.
 #![tactic(auto)]
 
+mod calls;
 mod handlers;
-mod replies;
+mod messages;
+mod sound;
 mod steps;
 
-pub use gateway_record::{Gateway, Started, fragment};
+pub use calls::{next_message, receive};
+pub use gateway_record::{Ending, Gateway, Phase, Started, fragment};
 pub use gateway_rules::Answer;
-pub use steps::{next_message, receive};
+pub use sound::SoundGateway;

@@ -1,99 +1,97 @@
-// The calls: a message is given and led to its handler, and the next one is asked for.
-ghost use Rattle.std.specs.Prelude.{◌≡◌, []};
-ghost use Rattle.message.specs.Messages.{to_gateway};
-ghost use Rattle.message.specs.Enums.{device_message, gateway_message};
-ghost use Rattle.codec.specs.Answers.{sent, OfCode};
-ghost use Rattle.gateway_rules.specs.Rules.{handle, receive_of, wanted, next_message_of};
-ghost use Rattle.gateway_rules.specs.Answers.{after_call};
-ghost use Rattle.gateway_rules.specs.Inner.{Guarded};
+//! The calls of a gateway whose record keeps the rules: a message is given and led to its handler, and
+//! the next one is asked for.
+ghost use Rattle.std.specs.Prelude.{◌≡◌, true, IfOk, OnErr, ◌<◌};
+ghost use Rattle.basis.specs.Refusals.{answered};
+ghost use Rattle.message.specs.Messages.{to_device};
+ghost use Rattle.message.specs.Enums.{device_message, reading_of};
+ghost use Rattle.codec.specs.Answers.{sent};
+ghost use Rattle.gateway_record.specs.Record.{record_ok, call_refusal};
+ghost use Rattle.gateway_rules.specs.Rules.{receive_of, wanted, next_message_of};
+ghost use Rattle.gateway.specs.Sound.{outcome_of, Unchanged};
 
-use crate::handlers::{
-    on_announce_reply, on_download_report, on_execute_reply, on_fragment_request, on_query_reply,
-    on_result_report,
-};
-use crate::replies::refused;
-use basis::number::{HANDLED, NO_USE};
-use codec::Written;
-use gateway_record::{Gateway, calling};
-use gateway_rules::Answer;
-use message::{ToDevice, ToGateway};
+use crate::messages::say;
+use crate::sound::SoundGateway;
+use basis::{Refusal, require};
+use gateway_record::{Gateway, Phase};
+use message::{Fields, ToDevice, ToGateway};
 
-// A reading is led to the handler of its message's code; a refusal leaves by the exit of whatever
-// handler it comes to.
-fn handle(
-    gateway: Gateway,
-    code: u8,
-    reading: ToGateway,
-    version: [u8; 16],
-    content: &[u8],
-    reply: &mut [u8],
-) -> Answer
-    requires guarded { Guarded gateway content.now reply.old }
-    requires of_code { OfCode to_gateway code (gateway_message reading version) }
-    ensures { after_call result reply.new ≡ handle gateway content.now reply.old (gateway_message reading version) }
+// The fields, whose check code is known to be a WORD.
+fn known(fields: Fields) -> Fields
+    ensures same { result ≡ fields }
+    ensures range { result.code < 65536 }
 {
-    match code {
-        19 => on_query_reply(gateway, reading, version),
-        20 => on_announce_reply(gateway, reading),
-        21 => on_fragment_request(gateway, reading, version, content, reply),
-        22 => on_download_report(gateway, reading, reply),
-        23 => on_execute_reply(gateway, reading),
-        _ => on_result_report(gateway, reading, version, reply),
-    }
+    fields
 }
 
-// A message is given. The package is lent as it was at the start. On 0 the reply fills the front of
-// its buffer; on any other number nothing is written.
-pub fn receive(
-    gateway: Gateway,
-    supported: bool,
-    pcp: bool,
-    message: &[u8],
-    content: &[u8],
-    reply: &mut [u8],
-) -> Answer
-    ensures { after_call result reply.new
-        ≡ receive_of gateway content.now reply.old supported pcp message.now }
-{
-    let number = calling(gateway, content.len(), reply.len());
-    if number != HANDLED {
-        return refused(gateway, number);
+impl SoundGateway {
+    // What a call is refused for before anything is done: ShortReply, BadMemory.
+    #[tactic(auto, unfolding(basis::specs::Choice::refusal, basis::specs::Choice::pick))]
+    fn ready(&self, content: usize, reply: usize) -> Result<(), Refusal>
+        ensures rule { answered result ≡ call_refusal self.now content reply }
+        ensures sound { record_ok self.now ≡ true }
+    {
+        let whole = content == self.as_record().length;
+        require(Gateway::REPLY_ROOM <= reply, Refusal::ShortReply)?;
+        require(whole, Refusal::BadMemory)
     }
-    let reading = codec::read_to_gateway(supported, pcp, message);
-    let version = message::version_at(message, codec::version_place(reading));
-    let code = basis::byte_at(message, codec::CODE);
-    handle(gateway, code, reading, version, content, reply)
-}
 
-// The message of the phase. 9 where it has none.
-fn wanted(gateway: Gateway) -> ToDevice
-    ensures { device_message result gateway.fields.version [] ≡ wanted gateway }
-{
-    let phase = gateway.phase;
-    match phase {
-        Gateway::ASK => ToDevice::Query,
-        Gateway::OFFER => {
-            let fields = gateway.fields;
-            ToDevice::Announce {
-                size: fields.size,
-                total: fields.total,
-                code: fields.code,
-            }
+    /// A message is given. The package is lent as it was at the start. The answer is the length of the
+    /// reply at the front of its buffer, 0 where there is none.
+    ///
+    /// # Errors
+    ///
+    /// `ShortReply`, `BadMemory`, then what is not read (`Unsupported` to `BadData`), then `NoUse` in
+    /// this phase. Nothing is changed, and nothing written.
+    #[tactic(auto, unfolding(gateway_rules::specs::Rules::receive_of, gateway_rules::specs::Rules::handle, message::specs::Messages::gateway_row, basis::specs::Choice::refusal, basis::specs::Choice::pick))]
+    pub fn receive(
+        &mut self,
+        supported: bool,
+        pcp: bool,
+        message: &[u8],
+        content: &[u8],
+        reply: &mut [u8],
+    ) -> Result<usize, Refusal>
+        ensures rule { outcome_of result self.new reply.new
+            ≡ receive_of self.old content.now reply.old supported pcp message.now }
+        ensures err { OnErr result (Unchanged self.old self.new reply.old reply.new) }
+    {
+        self.ready(content.len(), reply.len())?;
+        let message = codec::read_to_gateway(supported, pcp, message)?;
+        match message {
+            ToGateway::QueryReply { .. } => self.on_query_reply(message),
+            ToGateway::AnnounceReply(_) => self.on_announce_reply(message),
+            ToGateway::FragmentRequest { .. } => self.on_fragment_request(message, content, reply),
+            ToGateway::DownloadReport(_) => self.on_download_report(message, reply),
+            ToGateway::ExecuteReply(_) => self.on_execute_reply(message),
+            ToGateway::ResultReport { .. } => self.on_result_report(message, reply),
         }
-        Gateway::RUN => ToDevice::Execute,
-        _ => ToDevice::Refused(NO_USE),
     }
-}
 
-// The gateway is asked for its next message. The record stays as it is.
-pub fn next_message(gateway: Gateway, content: &[u8], reply: &mut [u8]) -> Written
-    ensures { sent result reply.new ≡ next_message_of gateway content.now reply.old }
-{
-    let number = calling(gateway, content.len(), reply.len());
-    if number != HANDLED {
-        return Written { number, length: 0 };
+    // The message of the phase, or why there is none.
+    #[tactic(auto, using(crate::proofs::Totals::announced_total_ok), unfolding(gateway_rules::specs::Rules::wanted, gateway_record::specs::Record::record_ok, gateway_record::specs::Record::length_ok, message::specs::Messages::device_row, message::specs::Limits::size_ok, message::specs::Limits::is_word, basis::specs::Choice::pick))]
+    fn wanted(&self) -> Result<ToDevice<'_>, Refusal>
+        ensures rule { reading_of device_message result ≡ wanted self.now }
+        ensures sayable { IfOk result (λ m. to_device.valid (device_message m) ≡ true) }
+    {
+        match self.phase() {
+            Phase::Ask => Ok(ToDevice::Query),
+            Phase::Offer => Ok(ToDevice::Announce(known(self.as_record().fields))),
+            Phase::Run => Ok(ToDevice::Execute),
+            Phase::Serve | Phase::Ended => Err(Refusal::NoUse),
+        }
     }
-    let fields = gateway.fields;
-    let version = fields.version;
-    codec::say_to_device(wanted(gateway), version, b"", reply)
+
+    /// The gateway is asked for its next message: the answer is its length, at the front of the buffer.
+    ///
+    /// # Errors
+    ///
+    /// `ShortReply`, `BadMemory`, then `NoUse` where the phase has nothing to say. Nothing is written.
+    #[tactic(auto, unfolding(gateway_rules::specs::Rules::next_message_of, codec::specs::Codec::said, basis::specs::Choice::refusal, basis::specs::Choice::pick))]
+    pub fn next_message(&self, content: &[u8], reply: &mut [u8]) -> Result<usize, Refusal>
+        ensures rule { sent result reply.new ≡ next_message_of self.now content.now reply.old }
+        ensures err { OnErr result (reply.new ≡ reply.old) }
+    {
+        self.ready(content.len(), reply.len())?;
+        say(&self.wanted()?, reply)
+    }
 }

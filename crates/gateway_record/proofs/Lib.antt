@@ -1,4 +1,3 @@
 pub mod Package
 pub mod Records
-pub mod Starts
 pub mod Cases

@@ -1,23 +1,22 @@
 -- The package in fragments: how many there are, where each stands and how long it is, and what a start that is answered 0 tells.
 -- Assumes nothing.
-use Prim.Native.Nat.{ℕ, suc, ◌+◌, ◌*◌, ◌-◌, ◌/◌, ◌≤◌, ◌<◌, min}
+use Prim.Native.Nat.{ℕ, suc, ◌+◌, ◌*◌, ◌-◌, ◌/◌, ◌%◌, ◌≤◌, ◌<◌, min}
 use native.Mathlib.Nat.{lt-div-mul-add, le-div_iff_mul-le, div-lt_iff_lt-mul, mul_comm, suc-mul}
 use native.Mathlib.Omega.{arith}
 use mathlib.Core.Path.{◌≡◌, refl}
 use mathlib.Core.Bool.{Bool, true}
 use mathlib.Core.List.{List}
-use lib.Dec.{eqb, leb}
+use Rattle.std.proofs.lemmas.Grind.{div_ceil_times}
+use lib.Dec.{eqb}
 use lib.ListN.{length, take, drop, length-take, length-drop}
-use borrow.Author.Tests.{leb-true, eqb-true, eqb-false}
+use borrow.Author.Tests.{eqb-true, eqb-false}
 use Rattle.basis.specs.Choice.{pick}
-use Rattle.basis.proofs.Choosing.{pick_yes, by_cases, and_left, and_right, passed}
+use Rattle.basis.proofs.Choosing.{pick_yes, by_cases, passed}
 use Rattle.checksum.specs.Check.{check_of}
 use Rattle.message.specs.Limits.{total_max, size_ok}
 use Rattle.message.specs.Version.{good_version}
-use Rattle.gateway_record.specs.declared.Gateway.{Gateway}
 use Rattle.gateway_record.specs.declared.Started.{Started}
-use Rattle.gateway_record.specs.Record.{total_of, length_ok, fragment_of, started, start_of, start_refusal, record_ok}
-use Rattle.gateway_record.proofs.Records.{told}
+use Rattle.gateway_record.specs.Record.{total_of, length_ok, fragment_of, started, start_of, start_refusal}
 
 -- ---- how many fragments there are
 
@@ -45,10 +44,15 @@ module _ (n size : ℕ) (h : 0 < size) where
   unfolding total_of
   total_most l = omega (arith, (div-lt_iff_lt-mul {k = size} {x = n + (size - 1)} {y = suc total_max} h).1 (omega arith))
 
--- what 19 does not refuse has a length from 1 to the most fragments of its size, which is then some
-pub length_range : (n size : ℕ) → length_ok n size ≡ true → (1 ≤ n) × (n ≤ total_max * size)
-unfolding length_ok
-length_range n size e = (leb-true 1 n (and_left _ _ e), leb-true n (total_max * size) (and_right (leb 1 n) _ e))
+  -- the code's quotient, rounded up, is it
+  pub rounded_up : n / size + min 1 (n % size) ≡ total_of n size
+  unfolding total_of
+  rounded_up =
+      let q : ℕ = n / size + min 1 (n % size) in
+      let (covers, close) = div_ceil_times n size h in
+      let low : q ≤ (n + (size - 1)) / size = (le-div_iff_mul-le {k = size} h).1 (omega (arith, covers, close)) in
+      let high : (n + (size - 1)) / size < suc q = (div-lt_iff_lt-mul {k = size} h).1 (omega (arith, covers, close, suc-mul q size)) in
+      omega (arith, low, high)
 
 -- ---- how long each is
 
@@ -97,7 +101,3 @@ starts version size content checked =
 pub started_fields : (version : List ℕ) (size : ℕ) (content : List ℕ) (code : ℕ) {s : Started} → StartedOn version size content code s
     → s.gateway.fields ≡ record { version = version; size = size; total = total_of (length content) size; code = code }
 started_fields version size content code s = rw (s.made, pick_yes {A = ℕ} (length_ok (length content) size) (total_of (length content) size) 0 s.length_ok)
-
--- the total of a record that keeps the rules
-pub good_total : (g : Gateway) → record_ok g ≡ true → g.fields.total ≡ total_of g.length g.fields.size
-good_total g e = (told g e).total

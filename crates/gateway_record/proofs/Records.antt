@@ -1,10 +1,9 @@
 -- What a record that passed 29 tells. Assumes nothing.
-use Prim.Native.Nat.{ℕ, ◌*◌, ◌≤◌}
-use mathlib.Core.Path.{◌≡◌, refl}
-use mathlib.Core.Bool.{Bool, true, false, ◌&&◌}
-use lib.Dec.{eqb, leb}
+use Prim.Native.Nat.{◌*◌, ◌≤◌}
+use mathlib.Core.Path.{◌≡◌}
+use mathlib.Core.Bool.{true, ◌&&◌}
+use lib.Dec.{leb}
 use borrow.Author.Tests.{leb-true, eqb-true}
-use Rattle.basis.specs.Choice.{pick}
 use Rattle.basis.proofs.Choosing.{and_left, and_right}
 use Rattle.message.specs.Limits.{size_min, size_max, size_ok, total_max}
 use Rattle.message.specs.Version.{good_version}
@@ -37,9 +36,3 @@ told g e =
       most = leb-true _ _ (and_right (leb 1 g.length) _ lengths);
       total = eqb-true _ _ (and_right (leb 1 g.length && leb g.length (total_max * g.fields.size)) _ rest);
     }
-
--- a total of 0 for a length that is refused need not be told from one that is compared
-pub total_tested : (t : Bool) (a b : ℕ) → (t && eqb a (pick t b 0)) ≡ (t && eqb a b)
-unfolding pick
-total_tested true a b = refl
-total_tested false a b = refl

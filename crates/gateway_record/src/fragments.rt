@@ -1,4 +1,4 @@
-// The package in fragments: its limits, its fields, and each part.
+//! The package in fragments: its limits, its fields, and each part.
 ghost use Rattle.std.specs.Prelude.{◌≡◌, ◌*◌};
 ghost use Rattle.basis.specs.Choice.{pick};
 ghost use Rattle.basis.specs.Stretch.{Stretch};
@@ -9,29 +9,32 @@ ghost use Rattle.gateway_record.specs.Record.{length_ok, announced_total, packag
 use crate::Gateway;
 use message::Fields;
 
-// The fragment size is in range.
+/// The fragment size is in range: 32 to 1,024 bytes.
+#[tactic(auto, unfolding(message::specs::Limits::size_ok))]
 pub fn size_ok(size: u16) -> bool
     ensures { result ≡ size_ok size }
 {
-    (Gateway::SIZE_MIN <= size) & (size <= Gateway::SIZE_MAX)
+    (Gateway::SIZE_MIN..=Gateway::SIZE_MAX).contains(&size)
 }
 
-// The package is neither empty nor longer than the most fragments of that size.
+/// The package, of so many bytes, is neither empty nor longer than the most fragments of that size.
+#[tactic(auto, unfolding(crate::specs::Record::length_ok))]
 pub fn length_ok(length: usize, size: u16) -> bool
     ensures { result ≡ length_ok length size }
 {
-    (1 <= length) & (length <= basis::product(Gateway::TOTAL_MAX, size))
+    (1..=usize::from(Gateway::TOTAL_MAX) * usize::from(size)).contains(&length)
 }
 
-// The number of fragments: length over size, rounded up. A package that 19 refuses has none, 0.
+/// The number of fragments: length over size, rounded up. A package that is refused for its length
+/// has none, 0.
+#[tactic(auto, using(crate::proofs::Package::rounded_up, crate::proofs::Package::total_most), unfolding(crate::specs::Record::length_ok, basis::specs::Choice::pick))]
 pub fn announced_total(length: usize, size: u16) -> u16
     ensures { result ≡ announced_total length size }
 {
     if !length_ok(length, size) {
         return 0;
     }
-    let wide = size as usize;
-    ((length + (wide - 1)) / wide) as u16
+    length.div_ceil(usize::from(size)) as u16
 }
 
 // The package's check code: the check rule over it, or 0, as the caller chose.
@@ -42,7 +45,7 @@ pub(crate) fn code_of(content: &[u8], checked: bool) -> u16
     if checked { checksum::check(content) } else { 0 }
 }
 
-// The four fields of a package of that length.
+/// The four fields of a package of that length, in bytes.
 pub fn package_fields(version: [u8; 16], size: u16, length: usize, code: u16) -> Fields
     ensures { result ≡ package_fields version size length code }
 {
@@ -54,10 +57,14 @@ pub fn package_fields(version: [u8; 16], size: u16, length: usize, code: u16) ->
     }
 }
 
-// The part of the package for an index (01's cutter): the part itself, not a copy. An index past the
-// last gives the empty part at the package's end.
+/// The cutter: the part of the package for an index, the part itself and not a copy. An index past
+/// the last gives the empty part at the package's end.
 pub fn fragment<'a>(content: &'a [u8], size: u16, index: u16) -> &'a [u8]
     ensures { Stretch result content.entry (index * size) size }
 {
-    basis::part_of(content, basis::product(index, size), size as usize)
+    basis::part_of(
+        content,
+        usize::from(index) * usize::from(size),
+        usize::from(size),
+    )
 }

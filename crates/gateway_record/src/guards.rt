@@ -1,41 +1,38 @@
-// What each call is refused for before anything is done: the number of the first test that fails,
-// else 0.
+//! What each call is refused for before anything is done: the first test that fails.
 ghost use Rattle.std.specs.Prelude.{◌≡◌};
+ghost use Rattle.basis.specs.Refusals.{answered};
 ghost use Rattle.gateway_record.specs.Record.{start_refusal, call_refusal};
 
 use crate::Gateway;
 use crate::fragments::{length_ok, size_ok};
 use crate::record::record_ok;
-use basis::number::{
-    BAD_MEMORY, BAD_PACKAGE, BAD_RECORD, BAD_SIZE, BAD_VERSION_TEXT, HANDLED, SHORT_REPLY,
-};
-use basis::unless;
+use basis::{Refusal, require};
 
-// A start: 17, 18, 19.
-pub fn starting(version: [u8; 16], size: u16, length: usize) -> u8
-    ensures { result ≡ start_refusal version size length }
+/// A start: the version text, the fragment size, the package's length in bytes.
+///
+/// # Errors
+///
+/// `BadVersionText`, `BadSize`, `BadPackage`, in this order.
+#[tactic(auto, unfolding(basis::specs::Choice::refusal, basis::specs::Choice::pick))]
+pub fn starting(version: [u8; 16], size: u16, length: usize) -> Result<(), Refusal>
+    ensures { answered result ≡ start_refusal version size length }
 {
-    let text = message::good_version(version);
-    let sized = size_ok(size);
-    let long = length_ok(length, size);
-    unless(
-        text,
-        BAD_VERSION_TEXT,
-        unless(sized, BAD_SIZE, unless(long, BAD_PACKAGE, HANDLED)),
-    )
+    require(message::good_version(version), Refusal::BadVersionText)?;
+    require(size_ok(size), Refusal::BadSize)?;
+    require(length_ok(length, size), Refusal::BadPackage)
 }
 
-// A message is given, or the next one asked for: 15, 29, 14 (the package's length is not the one at
-// the start), by the lengths of the package and of the reply buffer that are lent.
-pub fn calling(gateway: Gateway, content: usize, reply: usize) -> u8
-    ensures { result ≡ call_refusal gateway content reply }
+/// A message is given, or the next one asked for, with a package and a reply buffer of so many bytes.
+///
+/// # Errors
+///
+/// `ShortReply`, `BadRecord`, `BadMemory` (the package's length is not the one at the start), in this
+/// order.
+#[tactic(auto, unfolding(basis::specs::Choice::refusal, basis::specs::Choice::pick))]
+pub fn calling(gateway: Gateway, content: usize, reply: usize) -> Result<(), Refusal>
+    ensures { answered result ≡ call_refusal gateway content reply }
 {
-    let room = Gateway::REPLY_ROOM <= reply;
-    let kept = record_ok(gateway);
-    let whole = content == gateway.length;
-    unless(
-        room,
-        SHORT_REPLY,
-        unless(kept, BAD_RECORD, unless(whole, BAD_MEMORY, HANDLED)),
-    )
+    require(Gateway::REPLY_ROOM <= reply, Refusal::ShortReply)?;
+    require(record_ok(gateway), Refusal::BadRecord)?;
+    require(content == gateway.length, Refusal::BadMemory)
 }

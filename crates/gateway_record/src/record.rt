@@ -1,4 +1,4 @@
-// The record of the gateway: the ways in which it is made, and whether it keeps the rules (29).
+//! The record of the gateway: the ways in which it is made, and whether it keeps the rules.
 ghost use Rattle.std.specs.Prelude.{◌≡◌};
 ghost use Rattle.gateway_record.specs.Record.{started, in_phase, ended_with, record_ok};
 
@@ -17,35 +17,40 @@ pub(crate) fn started(version: [u8; 16], size: u16, length: usize, code: u16) ->
     }
 }
 
-// Only the phase changes.
+/// Only the phase changes.
 pub fn in_phase(gateway: Gateway, phase: u8) -> Gateway
     ensures { result ≡ in_phase phase gateway }
 {
-    let mut next = gateway;
-    next.phase = phase;
-    next
+    Gateway { phase, ..gateway }
 }
 
-// Ended, with its number.
+/// Ended, with its number.
 pub fn ended_with(gateway: Gateway, number: u8) -> Gateway
     ensures { result ≡ ended_with number gateway }
 {
-    let mut next = gateway;
-    next.phase = Gateway::ENDED;
-    next.ending = number;
-    next
+    Gateway {
+        phase: Gateway::ENDED,
+        ending: number,
+        ..gateway
+    }
 }
 
-// The record keeps the rules.
+/// The record keeps the rules: phase, ending number, version text, size, length, and the total that
+/// follows from these two.
+#[tactic(auto, unfolding(crate::specs::Record::record_ok, basis::specs::Choice::pick))]
 pub fn record_ok(gateway: Gateway) -> bool
     ensures { result ≡ record_ok gateway }
 {
-    let fields = gateway.fields;
-    let version = fields.version;
-    let size = fields.size;
-    let length = gateway.length;
-    let total = announced_total(length, size);
-    ((gateway.phase <= Gateway::ENDED) & (gateway.ending <= Gateway::UPGRADE_FAILED))
-        & (message::good_version(version)
-            & (size_ok(size) & (length_ok(length, size) & (fields.total == total))))
+    let Gateway {
+        phase,
+        ending,
+        fields,
+        length,
+    } = gateway;
+    phase <= Gateway::ENDED
+        && ending <= Gateway::UPGRADE_FAILED
+        && message::good_version(fields.version)
+        && size_ok(fields.size)
+        && length_ok(length, fields.size)
+        && fields.total == announced_total(length, fields.size)
 }

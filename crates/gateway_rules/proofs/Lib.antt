@@ -1,5 +1,3 @@
-pub mod Saying
-pub mod GuardedCalls
 pub mod RefusedStart
 pub mod Views
 pub mod Answered

@@ -1,19 +1,28 @@
 -- The record of a refused start has no version text, so that 29 refuses it where nothing did before. Assumes nothing.
+use Prim.Native.Nat.{ℕ}
 use mathlib.Core.Path.{◌≡◌, refl}
 use mathlib.Core.Logic.{◌≢◌}
-use mathlib.Core.Bool.{false}
-use lib.ListN.{replicate}
+use mathlib.Core.Bool.{true, false}
+use mathlib.Core.List.{List}
+use lib.Dec.{leb}
+use lib.ListN.{length, replicate}
 use Rattle.basis.specs.Choice.{pick}
-use Rattle.basis.proofs.Choosing.{by_cases, by_refusal}
+use Rattle.basis.proofs.Choosing.{by_cases, by_refusal, passed}
+use Rattle.message.specs.Limits.{gateway_room}
 use Rattle.message.specs.Version.{version_character, front, all_zero, good_version}
 use Rattle.message.specs.Messages.{DeviceMessage, Reading, to_device}
 use Rattle.codec.specs.Codec.{Sent, unsent, said}
 use Rattle.gateway_record.specs.declared.Gateway.{Gateway}
 use Rattle.gateway_record.specs.declared.Started.{Started}
-use Rattle.gateway_record.specs.Record.{started, start_of, record_ok}
+use Rattle.gateway_record.specs.Record.{started, start_of, record_ok, call_refusal}
 use Rattle.gateway_rules.specs.Rules.{After, refuse, receive_of, next_message_of}
 use Rattle.gateway_rules.specs.RefusedStart.{Unusable, RefusedStart}
-use Rattle.gateway_rules.proofs.GuardedCalls.{guarded}
+
+-- where the guard refuses nothing, the record keeps the rules
+sound_behind : (g : Gateway) (content reply : List ℕ) → call_refusal g (length content) (length reply) ≡ 0 → record_ok g ≡ true
+sound_behind g content reply z =
+    let (_, p) = passed 14 (leb gateway_room (length reply)) _ z in
+    (passed 28 (record_ok g) _ p).0
 
 module _ (g : Gateway) (broken : record_ok g ≡ false) where
   unusable : Unusable g
@@ -22,11 +31,11 @@ module _ (g : Gateway) (broken : record_ok g ≡ false) where
       record {
         receive = λ content reply supported pcp message.
             by_refusal (λ (a : After). (a.number ≢ 0) × (a ≡ refuse g content reply a.number)) _ _ _ broken
-            (λ e. (guarded g content reply _ refl e).sound) (λ n. (n, refl));
+            (sound_behind g content reply) (λ n. (n, refl));
         next_message = λ content reply.
             by_refusal
             (λ (r : Reading DeviceMessage). let s : Sent = said to_device r reply in (s.number ≢ 0) × (s ≡ unsent s.number reply)) _ _ _ broken
-            (λ e. (guarded g content reply _ refl e).sound) (λ n. (n, refl));
+            (sound_behind g content reply) (λ n. (n, refl));
       }
 
 broken_start : record_ok (started (replicate 16 0) 0 0 0) ≡ false

@@ -1,13 +1,12 @@
 -- What the result of a request for a fragment tells. Assumes nothing.
 use Prim.Native.Nat.{ℕ, ◌<◌}
 use native.Mathlib.Omega.{arith}
-use mathlib.Core.Path.{◌≡◌, refl, ◌∙◌}
+use mathlib.Core.Path.{◌≡◌, ◌∙◌}
 use mathlib.Core.Bool.{true}
-use mathlib.Core.List.{List, [], ◌∷◌}
+use mathlib.Core.List.{List}
 use mathlib.Core.Logic.{◌⊎◌, inl, inr}
 use lib.Dec.{eqb}
 use borrow.Author.Tests.{eqb-true, ltb-true, lt-ltb}
-use Rattle.basis.specs.Choice.{one_of}
 use Rattle.basis.specs.Bytes.{same}
 use Rattle.basis.proofs.Choosing.{by_cases, pick_yes, and_left, and_both, or_either}
 use Rattle.message.specs.declared.Fields.{Fields}
@@ -35,11 +34,3 @@ module _ (phase : ℕ) (f : Fields) (version : List ℕ) (index : ℕ) where
   pub given : serving phase ≡ true → same version f.version ≡ true → index < f.total → fragment_result phase f version index ≡ 0x00
   unfolding fragment_result
   given s v l = pick_yes _ _ _ (and_both s v) ∙ pick_yes _ _ _ (lt-ltb _ _ l)
-
-  -- any other is 80 or 81
-  pub denied_tells : (fragment_result phase f version index ≡ 0x00 → ⊥) → one_of (fragment_result phase f version index) (0x80 ∷ 0x81 ∷ []) ≡ true
-  unfolding fragment_result one_of
-  denied_tells =
-      by_cases (λ (r : ℕ). (r ≡ 0x00 → ⊥) → one_of r (0x80 ∷ 0x81 ∷ []) ≡ true)
-      (λ t. by_cases (λ (r : ℕ). (r ≡ 0x00 → ⊥) → one_of r (0x80 ∷ 0x81 ∷ []) ≡ true) (λ _ n. absurd (n refl)) (λ _ _. refl))
-      (λ _ _. refl)

@@ -2,6 +2,5 @@ pub mod Decisions
 pub mod DecisionCases
 pub mod Rules
 pub mod Answers
-pub mod Inner
 pub mod Cases
 pub mod RefusedStart

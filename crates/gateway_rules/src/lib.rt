@@ -1,5 +1,5 @@
-// The gateway's rules: what each call leaves, with cases and claims, each the contract of a function. The code is
-// in gateway, which is proved equal to them; here is otherwise only the struct that it answers with.
+//! The gateway's rules: what each call leaves, with cases and claims, each the contract of a function. The code is
+//! in gateway, which is proved equal to them; here is otherwise only the struct that it answers with.
 #![tactic(auto)]
 
 ghost use Rattle.gateway_rules.specs.Cases.{GatewayCases};
@@ -8,8 +8,9 @@ ghost use Rattle.gateway_rules.specs.RefusedStart.{RefusedStart};
 
 use gateway_record::Gateway;
 
-// What a given message is answered with: the number, the length of the reply at the front of its
-// buffer, and the gateway after it.
+/// What a given message is answered with: the number, the length in bytes of the reply at the front of
+/// its buffer, and the gateway after it. It is no `Result`, since `receive_of` gives the record on
+/// every number, and C is told number and length beside it.
 #[derive(Clone, Copy)]
 pub struct Answer {
     pub number: u8,

@@ -7,7 +7,7 @@ use mathlib.Core.List.{List, ◌∷◌, ◌++◌, append_assoc}
 use lib.ListN.{length, take, drop, set, replicate, length-append, length-take, length-drop, length-replicate, take-append-drop, replicate-append-replicate}
 use lib.Seq.{set_at, take_at, drop_at, take-append-le, drop-append-le, take-append-add, drop-append-add, drop-drop}
 use Rattle.basis.specs.Bytes.{patched}
-use Rattle.basis.proofs.Lists.{length_patched, rest_is}
+use Rattle.basis.proofs.Lists.{rest_is}
 use Rattle.md5_rules.specs.declared.Words.{Words}
 use Rattle.md5_rules.specs.declared.Md5.{Md5}
 use Rattle.md5_rules.specs.Md5.{length_field, padding_of, padded, start_words, compressed, blocks, digest_of, md5_of}
@@ -53,23 +53,19 @@ both rest field l₁ l₂ at z k n place end e h f g p q =
     ap (take end) (q ∙ ap (patched place field) whole) ∙ laid front field (replicate k 0) place end size g
     ∙ append_assoc rest (0x80 ∷ replicate z 0) field
 
--- its length
-pub buffer_length : (rest l : List ℕ) → length rest ≤ 128 → l ≡ patched 0 rest (replicate 128 0) → length l ≡ 128
-buffer_length rest l h p = ap length p ∙ length_patched 0 rest (replicate 128 0) (omega arith)
-
 pub closed_is : (w w₁ : Words) (rest field l₁ l₂ r : List ℕ) (n : ℕ) → let at : ℕ = length rest in
     let end : ℕ = (at + 8) / 64 * 64 + 64 in
     n % 64 ≡ at → field ≡ length_field n → l₁ ≡ patched 0 rest (replicate 128 0) → l₂ ≡ patched (end - 8) field (set l₁ at 0x80)
-    → w₁ ≡ blocks (length (take (end - 0) l₂) / 64) w (take (end - 0) l₂) → r ≡ digest_of w₁ → r ≡ closed_of w rest n
+    → w₁ ≡ blocks (length (take end l₂) / 64) w (take end l₂) → r ≡ digest_of w₁ → r ≡ closed_of w rest n
 unfolding closed_of padding_of
 closed_is w w₁ rest field l₁ l₂ r n h e₁ e₂ e₃ e₄ e₅ =
     let at : ℕ = length rest in
     let end : ℕ = (at + 8) / 64 * 64 + 64 in
     let z : ℕ = (119 - at) % 64 in
     let eight : length field ≡ 8 = ap length e₁ in
-    let tail : take (end - 0) l₂ ≡ rest ++ ((0x80 ∷ replicate z 0) ++ field) =
-    both rest field l₁ l₂ at z (127 - at - z) 128 (end - 8) (end - 0) refl (omega arith) (omega arith) (omega arith) e₂ e₃ in
-    let same : take (end - 0) l₂ ≡ rest ++ padding_of n =
+    let tail : take end l₂ ≡ rest ++ ((0x80 ∷ replicate z 0) ++ field) =
+    both rest field l₁ l₂ at z (127 - at - z) 128 (end - 8) end refl (omega arith) (omega arith) (omega arith) e₂ e₃ in
+    let same : take end l₂ ≡ rest ++ padding_of n =
     tail ∙ ap₂ (λ (k : ℕ) (f : List ℕ). rest ++ ((0x80 ∷ replicate ((119 - k) % 64) 0) ++ f)) (sym h) e₁ in
     e₅ ∙ ap digest_of (e₄ ∙ ap (λ (l : List ℕ). blocks (length l / 64) w l) same)
 
@@ -103,18 +99,16 @@ padding_length : (n : ℕ) → length (padding_of n) ≡ 9 + (119 - n % 64) % 64
 unfolding padding_of
 padding_length n = simp (length-append, length-replicate) (omega arith)
 
-pub finish_closed : (s : Md5) (r : List ℕ) → length s.block ≡ 64 → r ≡ closed_of s.words (take (s.count % 64 - 0) s.block) s.count → r ≡ finish_of s
+pub finish_closed : (s : Md5) (r : List ℕ) → length s.block ≡ 64 → r ≡ closed_of s.words (take (s.count % 64) s.block) s.count → r ≡ finish_of s
 unfolding closed_of finish_of
 finish_closed s r whole e =
     let n : ℕ = s.count in
-    let same : n % 64 - 0 ≡ n % 64 = omega arith in
     let tail : List ℕ = take (n % 64) s.block ++ padding_of n in
     let j : ℕ = length tail / 64 - 1 in
     let size : length tail ≡ n % 64 + length (padding_of n) = simp (length-append, length-take) (omega arith) in
     let total : n % 64 + length (padding_of n) ≡ suc j * 64 = omega (arith, padding_length n) in
     let count : length tail / 64 ≡ suc j = omega arith in
-    e ∙ ap (λ (k : ℕ). closed_of s.words (take k s.block) n) same
-    ∙ ap digest_of (ap (λ (k : ℕ). blocks k s.words tail) count ∙ sym (feed_words s (padding_of n) j whole total))
+    e ∙ ap digest_of (ap (λ (k : ℕ). blocks k s.words tail) count ∙ sym (feed_words s (padding_of n) j whole total))
 
 -- ---- from bytes alone
 

@@ -7,12 +7,12 @@ use mathlib.Core.Path.{◌≡◌, refl, sym, ◌∙◌, ap, ap₂}
 use mathlib.Core.Bool.{Bool, true, false}
 use mathlib.Core.List.{List, [], ◌∷◌, ◌++◌, append_assoc, append-nil}
 use lib.Dec.{eqb}
-use lib.ListN.{length, take, drop, get_or, set, replicate, length-append, length-take, length-drop, length-set, length-replicate, take-append-drop}
+use lib.ListN.{length, take, drop, set, replicate, length-append, length-take, length-drop, length-set, length-replicate, take-append-drop}
 use lib.ListN.{drop_of_length-le}
-use lib.Seq.{set_split, take-suc-set, take_all, drop-drop}
+use lib.Seq.{set_split, take-suc-set, take_all}
 use borrow.Author.Tests.{eq-eqb, ne_eqb}
 use Rattle.basis.specs.Choice.{pick}
-use Rattle.basis.specs.Bytes.{Bytes, patched}
+use Rattle.basis.specs.Bytes.{patched}
 use Rattle.basis.proofs.Choosing.{pick_yes, pick_no}
 use Rattle.basis.proofs.Lists.{patched_patched, rest_is}
 use Rattle.md5_rules.specs.declared.Words.{Words}
@@ -205,50 +205,33 @@ filled_is s xs l n w whole h e₁ e₂ e₃ =
     ∙ sym (feed_whole s xs whole h)
 
 -- a cut as the code makes it: up to a place, and from there on
-pub cut_at : (s after end : Md5) (xs : List ℕ) (at : ℕ) → at ≤ length xs → after ≡ feed_of s (take (at - 0) xs)
+pub cut_at : (s after end : Md5) (xs : List ℕ) (at : ℕ) → at ≤ length xs → after ≡ feed_of s (take at xs)
     → end ≡ feed_of after (take (length xs - at) (drop at xs)) → end ≡ feed_of s xs
 cut_at s after end xs at h e₁ e₂ =
-    let same : at - 0 ≡ at = omega arith in
     e₂ ∙ ap (feed_of after) (rest_is at xs)
-    ∙ ap (λ (z : Md5). feed_of z (drop at xs)) (e₁ ∙ ap (λ (n : ℕ). feed_of s (take n xs)) same)
+    ∙ ap (λ (z : Md5). feed_of z (drop at xs)) e₁
     ∙ sym (feed_append s (take at xs) (drop at xs))
     ∙ ap (feed_of s) (take-append-drop at xs)
 
--- a piece of what is left, from a place on
-pub piece_turn : (s after end : Md5) (xs : List ℕ) (at n : ℕ) → after ≡ feed_of s (take (at + n - at) (drop at xs)) → feed_of s (drop at xs) ≡ end
-    → feed_of after (drop (at + n) xs) ≡ end
-piece_turn s after end xs at n e inv =
-    let same : at + n - at ≡ n = omega arith in
-    ap₂ (λ (z : Md5) (l : List ℕ). feed_of z l) (e ∙ ap (λ (k : ℕ). feed_of s (take k (drop at xs))) same) (sym (drop-drop n at xs))
-    ∙ sym (feed_append s (take n (drop at xs)) (drop n (drop at xs)))
-    ∙ ap (feed_of s) (take-append-drop n (drop at xs)) ∙ inv
+-- a piece of what is left
+pub piece_turn : (s after end : Md5) (xs piece next : List ℕ) → xs ≡ piece ++ next → after ≡ feed_of s piece → feed_of s xs ≡ end
+    → feed_of after next ≡ end
+piece_turn s after end xs piece next e f inv =
+    ap (λ (z : Md5). feed_of z next) f ∙ sym (feed_append s piece next) ∙ ap (feed_of s) (sym e) ∙ inv
 
-pub pieces_ended : (s end : Md5) (xs : List ℕ) (at : ℕ) → length xs ≤ at → feed_of s (drop at xs) ≡ end → s ≡ end
+pub pieces_ended : (s end : Md5) (xs : List ℕ) → length xs ≡ 0 → feed_of s xs ≡ end → s ≡ end
 unfolding feed_of
-pieces_ended s end xs at h inv = sym (ap (feed_of s) (drop_of_length-le xs h)) ∙ inv
+pieces_ended s end [] e inv = inv
+pieces_ended s end (x ∷ xs) e inv = absurd (omega arith)
 
--- how many bytes wait then
-pub cut_count : (s after : Md5) (xs : List ℕ) (at : ℕ) → s.count < 18446744073709551616 → at ≤ length xs → after ≡ feed_of s (take (at - 0) xs)
-    → after.count % 64 ≡ (s.count + at) % 64
-cut_count s after xs at fits h e =
-    let size : length (take (at - 0) xs) ≡ at = simp length-take (omega arith) in
+-- bytes that make the block whole: then none waits
+pub cut_whole : (s after : Md5) (xs : List ℕ) (at : ℕ) → s.count < 18446744073709551616 → at ≡ 64 - s.count % 64 → at ≤ length xs
+    → after ≡ feed_of s (take at xs) → after.count % 64 ≡ 0
+cut_whole s after xs at fits room h e =
+    let size : length (take at xs) ≡ at = simp length-take (omega arith) in
     let count : after.count ≡ counted s.count at =
-    ap (λ (z : Md5). z.count) e ∙ feed_count s (take (at - 0) xs) fits ∙ ap (counted s.count) size in
-    ap (λ (n : ℕ). n % 64) count ∙ counted-place (s.count + at)
-  where
-    counted-place : (n : ℕ) → n % 18446744073709551616 % 64 ≡ n % 64
-    counted-place n = omega arith
-
--- the rest of bytes behind their whole blocks leaves the block open
-pub rest_open : (s after : Md5) (xs : List ℕ) → s.count < 18446744073709551616 → s.count % 64 ≡ 0
-    → after ≡ feed_of s (take (length xs - length xs % 64 - 0) xs)
-    → after.count % 64 + length (take (length xs - (length xs - length xs % 64)) (drop (length xs - length xs % 64) xs)) < 64
-rest_open s after xs fits none e =
-    let at : ℕ = length xs - length xs % 64 in
-    let within : at ≤ length xs = omega arith in
-    let count : after.count % 64 ≡ (s.count + at) % 64 = cut_count s after xs at fits within e in
-    let waits : (s.count + at) % 64 ≡ 0 = omega arith in
-    simp (length-take, length-drop) (omega arith)
+    ap (λ (z : Md5). z.count) e ∙ feed_count s (take at xs) fits ∙ ap (counted s.count) size in
+    ap (λ (n : ℕ). n % 64) count ∙ omega arith
 
 -- ---- the padding
 
@@ -265,10 +248,6 @@ unfolding padded padding_of
 padded_length m = simp (length-append, length-replicate) (omega arith)
 
 -- ---- the digest
-
--- the bytes of a word, element by element
-pub word_first : (l rest : List ℕ) (n : ℕ) → l ≡ low_first 4 n → get_or l 0 0 ∷ get_or l 1 0 ∷ get_or l 2 0 ∷ get_or l 3 0 ∷ rest ≡ low_first 4 n ++ rest
-word_first l rest n e = ap (λ (z : List ℕ). get_or z 0 0 ∷ get_or z 1 0 ∷ get_or z 2 0 ∷ get_or z 3 0 ∷ rest) e
 
 pub whole_digest : (m : List ℕ) → finish_of (feed_of new_of m) ≡ md5_of m
 unfolding finish_of md5_of padded
@@ -294,24 +273,3 @@ any_cut = record { any_cut = λ pieces. ap finish_of (fed_pieces_lem new_of piec
 pub digest_length : (m : List ℕ) → length (md5_of m) ≡ 16
 unfolding md5_of digest_of
 digest_length m = refl
-
-no_bytes : Bytes []
-unfolding Bytes
-no_bytes i = omega arith
-
-low_bytes : (k n : ℕ) (rest : List ℕ) → Bytes rest → Bytes (low_first k n ++ rest)
-unfolding Bytes
-low_bytes zero n rest h i = h i
-low_bytes (suc k) n rest h zero = omega arith
-low_bytes (suc k) n rest h (suc i) = low_bytes k (n / 256) rest h i
-
-pub digest_bytes : (m : List ℕ) → Bytes (md5_of m)
-unfolding md5_of digest_of
-digest_bytes m = sixteen (blocks (length (padded m) / 64) start_words (padded m))
-  where
-    sixteen : (w : Words) → Bytes (digest_of w)
-    sixteen w =
-        let d : List ℕ = low_first 4 w.d in
-        let c : List ℕ = low_first 4 w.c ++ d in
-        let b : List ℕ = low_first 4 w.b ++ c in
-        low_bytes 4 w.a b (low_bytes 4 w.b c (low_bytes 4 w.c d (low_bytes 4 w.d [] no_bytes)))

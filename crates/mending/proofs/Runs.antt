@@ -1,90 +1,103 @@
--- The steps of mending one after the other. Assumes nothing.
-use Prim.Native.Nat.{ℕ, zero, suc, ◌+◌, ◌-◌, ◌*◌, ◌≤◌, ◌<◌}
-use native.Mathlib.Omega.{arith}
-use mathlib.Core.Path.{◌≡◌, refl, sym, ap}
-use mathlib.Core.List.{List, []}
-use lib.ListN.{length}
-use Rattle.capture_rules.specs.Capture.{Item, capture_most}
-use Rattle.capture_rules.specs.Mending.{Part, mended, part_at, place_behind}
+-- Mending piece by piece: what was written so far, and what is left to write. Assumes nothing.
+use Rattle.std.proofs.Common.{◌≡◌, ℕ, zero, suc, ◌+◌, refl, ap, List, [], ◌∷◌, ◌++◌, length, Result, Ok, Err}
+use Rattle.std.specs.Prelude.{⊤, IsErr}
+use mathlib.Core.Bool.{false≢true}
+use mathlib.Core.Logic.{inl, inr}
+use Rattle.capture_rules.specs.Capture.{record_bytes, part_of}
+use Rattle.capture_rules.specs.Mending.{Part, part_at, place_behind}
 use Rattle.capture_rules.specs.Mended.{followed, parts_from, parts_of, records_in, mended_bytes}
-use Rattle.capture_rules.proofs.Steps.{ends}
-use Rattle.text.proofs.Emitting.{Remaining, whole, complete, onward}
-use Rattle.mending.specs.declared.Reached.{Reached}
-use Rattle.mending.specs.Account.{lines_of, told_text, stretch_most, told_room}
-use Rattle.mending.specs.Inner.{record_of, line_of, Stepped, Finished}
-use Rattle.mending.proofs.Steps.{Passes, passes}
+use Rattle.capture.specs.Items.{Entry, part_then, pieces_from, pieces}
+use Rattle.text.specs.declared.writer.NoRoom.{NoRoom}
+use Rattle.text.specs.declared.writer.Writer.{Writer}
+use Rattle.text.specs.Writing.{Puts}
+use Rattle.text.proofs.Runs.{Underway, begins, goes, stops, passes, ends}
+use Rattle.mending.specs.Account.{stretch_text, lines_of, told_text}
+use Rattle.mending.specs.Inner.{piece_bytes, piece_text, pieces_bytes, pieces_text, Mends}
 
--- nothing is left at the end
-none_left : (capture : List ℕ) (most at : ℕ) → length capture ≤ at → parts_from capture most at ≡ []
-unfolding parts_from mended
-none_left capture zero at h = refl
-none_left capture (suc most) at h =
-    ap (λ (i : Item). followed (mended capture i at) (parts_from capture most (place_behind (mended capture i at) at))) (sym (ends capture at h))
+-- ---- the pieces are the parts
 
-module _ (capture out told : List ℕ) where
-  -- what is left to write before a step, so many of them being enough; no more bytes are written than were passed, nor lines
-  pub record Underway (out' told' : List ℕ) (r : Reached) : Type 0 where
-    pub most : ℕ
-    pub enough : length capture < r.at + most
-    pub records : Remaining (mended_bytes capture) out 0 (records_in capture (parts_from capture most r.at)) out' r.end
-    pub lines : Remaining (told_text capture) told 0 (lines_of (parts_from capture most r.at)) told' r.told
-    pub written : r.end ≤ r.at
-    pub told_for : r.told ≤ stretch_most * r.at
+module _ (capture : List ℕ) where
+  bytes_then : (part : Part) (at : ℕ) (f : ℕ → List Part) (g : ℕ → List (Result Entry (ℕ × ℕ)))
+      → ((next : ℕ) → records_in capture (f next) ≡ pieces_bytes (g next))
+      → records_in capture (followed part (f (place_behind part at))) ≡ pieces_bytes (part_then capture part at g)
+  unfolding records_in pieces_bytes
+  bytes_then (Part.found d s c) at f g e = ap (λ t. record_bytes d (part_of capture s c) ++ t) (e (s + c))
+  bytes_then (Part.passed s c) at f g e = e (s + c)
+  bytes_then Part.end at f g e = refl
 
-  pub begins : Underway out told (record { at = 0; end = 0; told = 0 })
-  unfolding mended_bytes told_text parts_of
-  begins =
-      record {
-        most = suc (length capture);
-        enough = omega arith;
-        records = whole _ out 0;
-        lines = whole _ told 0;
-        written = omega arith;
-        told_for = omega arith;
-      }
+  bytes_are : (most at : ℕ) → records_in capture (parts_from capture most at) ≡ pieces_bytes (pieces_from capture most at)
+  unfolding parts_from pieces_from pieces_bytes records_in
+  bytes_are zero at = refl
+  bytes_are (suc most) at = bytes_then (part_at capture at) at (parts_from capture most) (pieces_from capture most) (bytes_are most)
 
-  module _ {out' told' : List ℕ} {r : Reached} (u : Underway out' told' r) where
-    pub finishes : length capture ≤ r.at → Finished capture out told r out' told'
-    unfolding records_in lines_of
-    finishes h =
-        record {
-          records = complete _ out 0 (rw (none_left capture u.most r.at h) at u.records);
-          lines = complete _ told 0 (rw (none_left capture u.most r.at h) at u.lines);
-        }
+  pub mended_is : mended_bytes capture ≡ pieces_bytes (pieces capture 0)
+  unfolding mended_bytes parts_of
+  mended_is = bytes_are (suc (length capture)) 0
 
-    module _ (h : r.at < length capture) where
-      pub record_room : length capture ≤ length out → r.end + (length capture - r.at) ≤ length out'
-      record_room fits = omega (arith, u.written, u.records.same)
+  line_then : (part : Part) (at : ℕ) (f : ℕ → List Part) (g : ℕ → List (Result Entry (ℕ × ℕ))) → ((next : ℕ) → lines_of (f next) ≡ pieces_text (g next))
+      → lines_of (followed part (f (place_behind part at))) ≡ pieces_text (part_then capture part at g)
+  unfolding lines_of pieces_text
+  line_then (Part.found d s c) at f g e = e (s + c)
+  line_then (Part.passed s c) at f g e = ap (λ t. stretch_text s c ++ t) (e (s + c))
+  line_then Part.end at f g e = refl
 
-      pub line_room : length capture ≤ capture_most → told_room ≤ length told → r.told + stretch_most ≤ length told'
-      line_room small fits = omega (arith, u.told_for, u.lines.same)
+  lines_are : (most at : ℕ) → lines_of (parts_from capture most at) ≡ pieces_text (pieces_from capture most at)
+  unfolding parts_from pieces_from pieces_text lines_of
+  lines_are zero at = refl
+  lines_are (suc most) at = line_then (part_at capture at) at (parts_from capture most) (pieces_from capture most) (lines_are most)
 
-      module _ {out'' told'' : List ℕ} {s : Reached} (t : Stepped capture (part_at capture r.at) r out' told' s out'' told'') where
-        abbrev part : Part
-        part = part_at capture r.at
+  pub told_is : told_text capture ≡ pieces_text (pieces capture 0)
+  unfolding told_text parts_of
+  told_is = lines_are (suc (length capture)) 0
 
-        pub later : r.at < s.at
-        later = omega (arith, t.place, (passes capture r.at h).onward)
+-- ---- both writers
 
-        module _ (small : length capture ≤ capture_most) (fits_out : length capture ≤ length out) (fits_told : told_room ≤ length told) where
-          goes_on : (most : ℕ) → length capture < r.at + most
-              → Remaining (mended_bytes capture) out 0 (records_in capture (parts_from capture most r.at)) out' r.end
-              → Remaining (told_text capture) told 0 (lines_of (parts_from capture most r.at)) told' r.told → Underway out'' told'' s
-          unfolding parts_from
-          goes_on zero e rs ls = absurd (omega arith)
-          goes_on (suc most) e rs ls =
-              let p : Passes capture r.at part = passes capture r.at h in
-              let parts : List Part = parts_from capture most (place_behind part r.at) in
-              record {
-                most = most;
-                enough = omega (arith, later);
-                records = rw t.place (onward _ out 0 (record_of capture part) (records_in capture parts) (rw (p.records parts) at rs)
-                    (omega (arith, record_room fits_out, p.within)) t.records);
-                lines = rw t.place (onward _ told 0 (line_of part) (lines_of parts) (rw (p.lines parts) at ls)
-                    (omega (arith, line_room small fits_told, p.line)) t.lines);
-                written = omega (arith, t.records.place, p.short, t.place, u.written);
-                told_for = omega (arith, t.lines.place, p.line, later, u.told_for);
-              }
+pub record Both (capture : List ℕ) (out out' told told' : Writer) (xs : List (Result Entry (ℕ × ℕ))) : Type 0 where
+  pub records : Underway out out' (pieces_bytes xs) (mended_bytes capture)
+  pub lines : Underway told told' (pieces_text xs) (told_text capture)
 
-          pub again : Underway out'' told'' s
-          again = goes_on u.most u.enough u.records u.lines
+pub both_begin : (capture : List ℕ) (out told : Writer) (xs : List (Result Entry (ℕ × ℕ))) → xs ≡ pieces capture 0 → Both capture out out told told xs
+both_begin capture out told xs e =
+    record {
+      records = begins out (pieces_bytes xs) (mended_bytes capture) (rw (mended_is capture) (ap pieces_bytes e));
+      lines = begins told (pieces_text xs) (told_text capture) (rw (told_is capture) (ap pieces_text e));
+    }
+
+module _ {capture : List ℕ} {out out' told told' u : Writer} {xs rest : List (Result Entry (ℕ × ℕ))} (h : Both capture out out' told told' xs) where
+  module _ {e : Entry} (is : xs ≡ Ok e ∷ rest) where
+    pub record_goes : Puts (piece_bytes (Ok e)) (Ok tt) out' u → Both capture out u told told' rest
+    unfolding pieces_bytes pieces_text
+    record_goes p = record { records = goes h.records (ap pieces_bytes is) p; lines = passes h.lines (ap pieces_text is) }
+
+    pub record_stops : {n : NoRoom} {r : Result ⊤ NoRoom} → Puts (piece_bytes (Ok e)) (Err n) out' u → IsErr r → Mends capture r out told u told'
+    unfolding pieces_bytes
+    record_stops {n} {r} p k = go r (stops h.records (pieces_bytes rest) (ap pieces_bytes is) p k) k
+      where
+        go : (r : Result ⊤ NoRoom) → Puts (mended_bytes capture) r out u → IsErr r → Mends capture r out told u told'
+        go (Ok x) q k = absurd (false≢true k)
+        go (Err x) q k = record { records = tt; lines = tt; full = inl q.full; same_out = q.reference; same_told = h.lines.so_far.reference }
+
+  module _ {s : ℕ × ℕ} (is : xs ≡ Err s ∷ rest) where
+    pub stretch_goes : Puts (piece_text (Err s)) (Ok tt) told' u → Both capture out out' told u rest
+    unfolding pieces_bytes pieces_text
+    stretch_goes p = record { records = passes h.records (ap pieces_bytes is); lines = goes h.lines (ap pieces_text is) p }
+
+    pub stretch_stops : {n : NoRoom} {r : Result ⊤ NoRoom} → Puts (piece_text (Err s)) (Err n) told' u → IsErr r → Mends capture r out told out' u
+    unfolding pieces_text
+    stretch_stops {n} {r} p k = go r (stops h.lines (pieces_text rest) (ap pieces_text is) p k) k
+      where
+        go : (r : Result ⊤ NoRoom) → Puts (told_text capture) r told u → IsErr r → Mends capture r out told out' u
+        go (Ok x) q k = absurd (false≢true k)
+        go (Err x) q k = record { records = tt; lines = tt; full = inr q.full; same_out = h.records.so_far.reference; same_told = q.reference }
+
+pub both_end : {capture : List ℕ} {out out' told told' : Writer} {xs : List (Result Entry (ℕ × ℕ))} → Both capture out out' told told' xs → xs ≡ []
+    → Mends capture (Ok tt) out told out' told'
+unfolding pieces_bytes pieces_text
+both_end h e =
+    record {
+      records = ends h.records (ap pieces_bytes e);
+      lines = ends h.lines (ap pieces_text e);
+      full = tt;
+      same_out = h.records.so_far.reference;
+      same_told = h.lines.so_far.reference;
+    }

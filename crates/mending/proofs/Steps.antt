@@ -1,105 +1,32 @@
--- One step of mending: what a part at a place adds, and what each kind of part leaves. Assumes nothing.
-use Prim.Native.Nat.{ℕ, ◌+◌, ◌-◌, ◌≤◌, ◌<◌}
+-- What a part at a place adds, and how much all of them add at most. Assumes nothing.
+use Prim.Native.Nat.{ℕ, zero, suc, ◌+◌, ◌-◌, ◌*◌, ◌≤◌, ◌<◌}
 use native.Mathlib.Omega.{arith}
-use mathlib.Core.Path.{◌≡◌, refl, sym, ◌∙◌, ap, subst}
-use mathlib.Core.Bool.{Bool, true}
-use mathlib.Core.List.{List, ◌++◌}
-use lib.ListN.{length, take, drop, length-take, length-drop}
-use borrow.Author.Tests.{le-leb, leb-true}
-use Rattle.basis.proofs.Choosing.{and_both, by_cases}
-use Rattle.capture.specs.declared.Wrote as declared
-use Rattle.capture.specs.declared.Part as declared-part
-use Rattle.capture.specs.declared.Part.TheVariants as variants
-use Rattle.capture.specs.declared.Mended.{Mended}
-use Rattle.capture.specs.Answers.{wrote, part_of_code, mend_told}
-use Rattle.capture_rules.specs.Capture.{Item, capture_most, record_bytes, header_length, item_at, part_of}
-use Rattle.capture_rules.specs.Mending.{Part, mended, resume_at, part_at, place_behind, Mend, mend_at}
-use Rattle.capture_rules.specs.Mended.{followed, records_in}
-use Rattle.capture_rules.specs.Writing.{message_most, fits, Wrote, write_at}
-use Rattle.capture_rules.proofs.Steps.{Found, is_found}
+use mathlib.Core.Path.{◌≡◌, refl, sym, ap}
+use mathlib.Core.Bool.{Bool, true, false}
+use mathlib.Core.List.{List, [], ◌++◌}
+use lib.Dec.{leb}
+use lib.ListN.{length, take, drop, length-append, length-take}
+use borrow.Author.Tests.{leb-true, leb-false}
+use Rattle.basis.proofs.Choosing.{by_cases}
+use Rattle.capture_rules.specs.Capture.{Item, capture_most, record_bytes, item_at, part_of}
+use Rattle.capture_rules.specs.Mending.{Part, mended, resume_at, part_at, place_behind}
+use Rattle.capture_rules.specs.Mended.{followed, parts_from, parts_of, records_in, mended_bytes}
+use Rattle.capture_rules.proofs.Steps.{Found, is_found, ends}
 use Rattle.capture_rules.proofs.Records.{length_record}
-use Rattle.capture_rules.proofs.Writes.{written}
 use Rattle.capture_rules.proofs.Mends.{first_above}
-use Rattle.text.specs.Answers.{Emitted}
-use Rattle.text.proofs.Emitting.{nothing}
-use Rattle.mending.specs.declared.Reached.{Reached}
-use Rattle.mending.specs.Account.{stretch_text, lines_of, stretch_most}
-use Rattle.mending.specs.Inner.{record_of, line_of, Stepped}
+use Rattle.mending.specs.Account.{stretch_text, lines_of, told_text, stretch_most, told_room}
 use Rattle.mending.proofs.Stretches.{length_stretch}
 
--- a record that mending finds is one that the walker finds
-walker_found : {to_device : Bool} {start count : ℕ} (capture : List ℕ) (at : ℕ) (item : Item)
-    → mended capture item at ≡ Part.found to_device start count → item ≡ Item.found to_device start count
-unfolding mended
-walker_found capture at (Item.found d s c) e = cc
-walker_found capture at Item.end e = let z : ◌≡◌ {A = ℕ} 0 1 = cc in absurd (omega arith)
-walker_found capture at (Item.fault number) e = let z : ◌≡◌ {A = ℕ} 0 1 = cc in absurd (omega arith)
+-- what a part adds to the records, and to the lines
+abbrev pub record_of : (capture : List ℕ) → Part → List ℕ
+record_of capture (Part.found to_device start count) = record_bytes to_device (part_of capture start count)
+record_of capture (Part.passed start count) = []
+record_of capture Part.end = []
 
--- ---- a record, written by the capture's writer
-
-module _ (capture out : List ℕ) (at end : ℕ) (small : length capture ≤ capture_most) (fits_out : end + (length capture - at) ≤ length out)
-    {to_device : Bool} {start count : ℕ} (f : Found capture at to_device start count) where
-  abbrev message : List ℕ
-  message = part_of capture start count
-
-  length-message : length message ≡ count
-  length-message = let w : start + count ≤ length capture = f.within in simp (length-take, length-drop) (omega arith)
-
-  has_room : fits (length out) end (length message) ≡ true
-  unfolding fits
-  has_room =
-      and_both (le-leb (length message) message_most (omega (arith, length-message, f.within)))
-      (le-leb (end + header_length + length message) (length out) (omega (arith, length-message, f.within, f.behind)))
-
-  pub record_written : {w : declared.Wrote} {out' : List ℕ} → wrote w out' ≡ write_at to_device message out end
-      → Emitted (record_bytes to_device message) out end out' w.at
-  record_written {w} {out'} e =
-      let l : wrote w out' ≡ _ = e ∙ sym (written to_device message out end has_room) in
-      record {
-        bytes = ap (λ (x : Wrote). x.buffer) l;
-        place = ap (λ (x : Wrote). x.at) l ∙ omega (arith, length_record to_device message);
-      }
-
--- ---- a step over what mending found at a place
-
-module _ (capture out told : List ℕ) (from : Reached) (m : Mended) (found : mend_told m ≡ mend_at capture from.at) where
-  -- what is shown of the part that the code's is, with the place that follows from it, holds of the one in the capture
-  at_place : (P : Part → Type 0) {part : declared-part.Part} → m.part ≡ part
-      → (part_at capture from.at ≡ part_of_code part → m.at ≡ place_behind (part_of_code part) from.at → P (part_of_code part))
-      → P (part_at capture from.at)
-  at_place P {part} e known =
-      let is : part_of_code part ≡ part_at capture from.at = sym (ap part_of_code e) ∙ ap (λ (x : Mend). x.part) found in
-      let place : m.at ≡ place_behind (part_at capture from.at) from.at = ap (λ (x : Mend). x.at) found in
-      subst (λ (p : Part). part_at capture from.at ≡ p → m.at ≡ place_behind p from.at → P p) is known refl place
-
-  pub over_record : length capture ≤ capture_most → from.end + (length capture - from.at) ≤ length out
-      → {to_device : Bool} {start count : ℕ} → m.part ≡ variants.Record to_device start count
-      → {message : List ℕ} → message ≡ part_of capture start count → {w : declared.Wrote} {out' : List ℕ}
-      → wrote w out' ≡ write_at to_device message out from.end
-      → Stepped capture (part_at capture from.at) from out told (record { at = m.at; end = w.at; told = from.told }) out' told
-  over_record small fits_out {to_device} {start} {count} e b {w} {out'} t =
-      at_place (λ (p : Part). Stepped capture p from out told (record { at = m.at; end = w.at; told = from.told }) out' told) e
-      (λ is place.
-      record {
-        records =
-            record_written capture out from.at from.end small fits_out
-            (is_found capture from.at (walker_found capture from.at (item_at capture from.at) is)) (rw b at t);
-        lines = nothing told from.told;
-        place = place;
-      })
-
-  pub over_stretch : {start count : ℕ} → m.part ≡ variants.Passed start count → {told' : List ℕ} {behind : ℕ}
-      → Emitted (stretch_text start count) told from.told told' behind
-      → Stepped capture (part_at capture from.at) from out told (record { at = m.at; end = from.end; told = behind }) out told'
-  over_stretch e {told'} {behind} t =
-      at_place (λ (p : Part). Stepped capture p from out told (record { at = m.at; end = from.end; told = behind }) out told') e
-      (λ _ place. record { records = nothing out from.end; lines = t; place = place })
-
-  pub at_end : m.part ≡ variants.Finish
-      → Stepped capture (part_at capture from.at) from out told (record { at = m.at; end = from.end; told = from.told }) out told
-  at_end e =
-      at_place (λ (p : Part). Stepped capture p from out told (record { at = m.at; end = from.end; told = from.told }) out told) e
-      (λ _ place. record { records = nothing out from.end; lines = nothing told from.told; place = place })
+abbrev pub line_of : Part → List ℕ
+line_of (Part.found to_device start count) = []
+line_of (Part.passed start count) = stretch_text start count
+line_of Part.end = []
 
 -- ---- a part before the end
 
@@ -158,3 +85,50 @@ passes capture at h = go (item_at capture at) refl
           records = λ parts. refl;
           lines = λ parts. refl;
         }
+
+-- ---- all of them
+
+-- nothing is left at the end
+none_left : (capture : List ℕ) (most at : ℕ) → length capture ≤ at → parts_from capture most at ≡ []
+unfolding parts_from mended
+none_left capture zero at h = refl
+none_left capture (suc most) at h =
+    ap (λ (i : Item). followed (mended capture i at) (parts_from capture most (place_behind (mended capture i at) at))) (sym (ends capture at h))
+
+-- no more bytes than are left, and a line for each of these at most
+record Most (capture : List ℕ) (at : ℕ) (parts : List Part) : Type 0 where
+  records : length (records_in capture parts) ≤ length capture - at
+  lines : length (lines_of parts) ≤ stretch_most * (length capture - at)
+
+most_after : (capture : List ℕ) (at : ℕ) (parts : List Part) → at < length capture → Most capture (place_behind (part_at capture at) at) parts
+    → Most capture at (followed (part_at capture at) parts)
+most_after capture at parts h m =
+    let p : Passes capture at (part_at capture at) = passes capture at h in
+    record {
+      records = rw (p.records parts)
+          (omega (arith, length-append (record_of capture (part_at capture at)) (records_in capture parts), p.short, p.within, m.records));
+      lines = rw (p.lines parts) (omega (arith, length-append (line_of (part_at capture at)) (lines_of parts), p.line, p.onward, m.lines));
+    }
+
+most_none : (capture : List ℕ) (at : ℕ) (parts : List Part) → parts ≡ [] → Most capture at parts
+unfolding records_in lines_of
+most_none capture at parts e = rw e (record { records = omega arith; lines = omega arith })
+
+most_from : (capture : List ℕ) (most at : ℕ) → Most capture at (parts_from capture most at)
+unfolding parts_from
+most_from capture zero at = most_none capture at [] refl
+most_from capture (suc most) at = by_place (leb (length capture) at) refl (most_from capture most (place_behind (part_at capture at) at))
+  where
+    by_place : (t : Bool) → leb (length capture) at ≡ t
+        → Most capture (place_behind (part_at capture at) at) (parts_from capture most (place_behind (part_at capture at) at))
+        → Most capture at (followed (part_at capture at) (parts_from capture most (place_behind (part_at capture at) at)))
+    by_place true h m = most_none capture at _ (none_left capture (suc most) at (leb-true _ _ h))
+    by_place false h m = most_after capture at _ (leb-false _ _ h) m
+
+pub mended_most : (capture : List ℕ) → length (mended_bytes capture) ≤ length capture
+unfolding mended_bytes parts_of
+mended_most capture = omega (arith, (most_from capture (suc (length capture)) 0).records)
+
+pub told_most : (capture : List ℕ) → length capture ≤ capture_most → length (told_text capture) ≤ told_room
+unfolding told_text parts_of
+told_most capture h = omega (arith, (most_from capture (suc (length capture)) 0).lines)

@@ -1,30 +1,34 @@
--- What the code's own functions leave. Assumes nothing.
-use Rattle.std.specs.Prelude.{ℕ, ◌≡◌, List, []}
-use Rattle.capture_rules.specs.Capture.{record_bytes, part_of}
-use Rattle.capture_rules.specs.Mending.{Part, place_behind}
+-- What is written of what mending gives, piece by piece: the records, and a line for each stretch. Assumes nothing.
+use Rattle.std.specs.Prelude.{ℕ, ◌<◌, ◌≡◌, ◌⊎◌, ⊤, List, [], ◌∷◌, ◌++◌, length, Result, Ok, Err, OnOk, OnErr}
+use Rattle.capture_rules.specs.Capture.{record_bytes}
 use Rattle.capture_rules.specs.Mended.{mended_bytes}
-use Rattle.text.specs.Answers.{Emitted}
-use Rattle.mending.specs.declared.Reached.{Reached}
+use Rattle.capture.specs.Items.{Entry}
+use Rattle.text.specs.declared.writer.NoRoom.{NoRoom}
+use Rattle.text.specs.declared.writer.Writer.{Writer}
+use Rattle.text.specs.Writing.{Puts, rest_of}
 use Rattle.mending.specs.Account.{stretch_text, told_text}
 
--- what a part adds to the records, and to the lines
-abbrev pub record_of : (capture : List ℕ) → Part → List ℕ
-record_of capture (Part.found to_device start count) = record_bytes to_device (part_of capture start count)
-record_of capture (Part.passed start count) = []
-record_of capture Part.end = []
+-- what a piece adds to the records, and to the lines
+abbrev pub piece_bytes : Result Entry (ℕ × ℕ) → List ℕ
+piece_bytes (Ok e) = record_bytes e.to_device e.message
+piece_bytes (Err s) = []
 
-abbrev pub line_of : Part → List ℕ
-line_of (Part.found to_device start count) = []
-line_of (Part.passed start count) = stretch_text start count
-line_of Part.end = []
+abbrev pub piece_text : Result Entry (ℕ × ℕ) → List ℕ
+piece_text (Ok e) = []
+piece_text (Err s) = stretch_text s.0 s.1
 
--- a step over a part: the two buffers, and the place behind it
-pub record Stepped (capture : List ℕ) (part : Part) (from : Reached) (out told : List ℕ) (to : Reached) (out' told' : List ℕ) : Type 0 where
-  pub records : Emitted (record_of capture part) out from.end out' to.end
-  pub lines : Emitted (line_of part) told from.told told' to.told
-  pub place : to.at ≡ place_behind part from.at
+unfoldable pub pieces_bytes : List (Result Entry (ℕ × ℕ)) → List ℕ
+pieces_bytes [] = []
+pieces_bytes (x ∷ xs) = piece_bytes x ++ pieces_bytes xs
 
--- all of them
-pub record Finished (capture out told : List ℕ) (to : Reached) (out' told' : List ℕ) : Type 0 where
-  pub records : Emitted (mended_bytes capture) out 0 out' to.end
-  pub lines : Emitted (told_text capture) told 0 told' to.told
+unfoldable pub pieces_text : List (Result Entry (ℕ × ℕ)) → List ℕ
+pieces_text [] = []
+pieces_text (x ∷ xs) = piece_text x ++ pieces_text xs
+
+-- all of them, in the two buffers; or one of the two has no room for its own
+pub record Mends (capture : List ℕ) (result : Result ⊤ NoRoom) (out told out' told' : Writer) : Type 0 where
+  pub records : OnOk result (Puts (mended_bytes capture) (Ok tt) out out')
+  pub lines : OnOk result (Puts (told_text capture) (Ok tt) told told')
+  pub full : OnErr result ((length (rest_of out) < length (mended_bytes capture)) ⊎ (length (rest_of told) < length (told_text capture)))
+  pub same_out : out'.out.ghost_name ≡ out.out.ghost_name
+  pub same_told : told'.out.ghost_name ≡ told.out.ghost_name

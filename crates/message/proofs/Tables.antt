@@ -1,5 +1,5 @@
 -- 01's table, column by column: fields and data stand for each other. Assumes nothing.
-use Prim.Native.Nat.{ℕ, ◌+◌, ◌≤◌}
+use Prim.Native.Nat.{ℕ, ◌+◌, ◌≤◌, ◌<◌}
 use native.Mathlib.Nat.{div-add-mod'}
 use native.Mathlib.Omega.{arith}
 use mathlib.Core.Path.{◌≡◌, refl, sym, ◌∙◌}
@@ -114,3 +114,16 @@ gateway_kept code d low high = by_code GatewayMessage to_gateway.code code low h
 
 pub gateway_lawful : Lawful to_gateway
 gateway_lawful = record { restored = λ m v. (gateway_message m v).0; bounds = λ m v. (gateway_message m v).1; code_kept = gateway_kept }
+
+-- ---- what is allowed has room in its sender's buffer, and its data in a length WORD
+
+module _ (t : Table) (lawful : Lawful t) (small : t.room ≤ 65536) where
+  fits : (m : t.Message) → t.valid m ≡ true → (8 + length (t.content m) ≤ t.room) × (length (t.content m) < 65536)
+  fits m v = ((lawful.bounds m v).2, omega (arith, (lawful.bounds m v).2))
+
+pub device_fits : (m : DeviceMessage) → to_device.valid m ≡ true → (8 + length (to_device.content m) ≤ to_device.room) × (length (to_device.content m) < 65536)
+device_fits = fits to_device device_lawful (omega arith)
+
+pub gateway_fits : (m : GatewayMessage) → to_gateway.valid m
+    ≡ true → (8 + length (to_gateway.content m) ≤ to_gateway.room) × (length (to_gateway.content m) < 65536)
+gateway_fits = fits to_gateway gateway_lawful (omega arith)

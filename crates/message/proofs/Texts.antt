@@ -1,61 +1,47 @@
--- Laws of version text: its front and its zeros, by what is left from a place on. Assumes nothing.
-use Prim.Native.Nat.{ℕ, suc, ◌+◌, ◌≤◌, ◌<◌}
-use native.Mathlib.Numerals.{add-one}
-use native.Mathlib.Omega.{arith}
-use mathlib.Core.Path.{◌≡◌}
-use mathlib.Core.Bool.{Bool, true, false, ◌&&◌}
-use mathlib.Core.List.{List, [], ◌∷◌}
-use lib.Dec.{leb}
-use lib.ListN.{length, drop, get_or, drop_of_length-le}
-use lib.Seq.{drop-cons}
-use borrow.Author.Tests.{eq-eqb, ne_eqb}
-use Rattle.basis.proofs.Choosing.{pick_yes, pick_no, by_cases}
+-- A version text: its front and its zeros in the words of std, and the whole rule. Assumes nothing.
+use Rattle.std.proofs.Common.{◌≡◌, ◌+◌, ◌≤◌, ◌<◌, ℕ, suc, Bool, true, false, cond, List, [], ◌∷◌, length, drop, refl, ap, ◌∙◌, ◌==◌, ◌&&◌, arith}
+use Rattle.std.specs.List.{list_all, prefix_len}
+use Rattle.std.proofs.lemmas.Bool.{eq-eqb, le-leb, lt-leb}
+use Rattle.basis.specs.Choice.{pick}
 use Rattle.message.specs.Version.{version_character, front, all_zero, good_version}
 
-module _ (v : List ℕ) (i : ℕ) where
-  -- ---- the front: what was passed, and the front of what is left
+one_more : (b : Bool) (m n : ℕ) → m ≡ n → cond b (1 + m) 0 ≡ pick b (suc n) 0
+unfolding pick
+one_more true m n e = omega arith
+one_more false m n e = refl
 
-  pub front_more : i < length v → version_character (get_or v i 0) ≡ true → i + front (drop i v) ≡ front v → i + 1 + front (drop (i + 1) v) ≡ front v
-  unfolding front
-  front_more h e inv =
-      let step : front (drop i v) ≡ suc (front (drop (i + 1) v)) =
-      rw (drop-cons v i 0, add-one) (pick_yes (version_character (get_or v i 0)) (suc (front (drop (suc i) v))) 0 e) in
-      omega arith
+pub front_is : (bs : List ℕ) → prefix_len version_character bs ≡ front bs
+unfolding front
+front_is [] = refl
+front_is (b ∷ bs) = one_more (version_character b) _ _ (front_is bs)
 
-  pub front_stops : i < length v → version_character (get_or v i 0) ≡ false → i + front (drop i v) ≡ front v → i ≡ front v
-  unfolding front
-  front_stops h e inv =
-      let none : front (drop i v) ≡ 0 = rw (drop-cons v i 0) (pick_no (version_character (get_or v i 0)) (suc (front (drop (suc i) v))) 0 e) in
-      omega arith
+zero_is : (bs : List ℕ) → list_all (λ b. b == 0) bs ≡ all_zero bs
+unfolding all_zero
+zero_is [] = refl
+zero_is (b ∷ bs) = ap (λ r. (b == 0) && r) (zero_is bs)
 
-  pub front_ended : length v ≤ i → i + front (drop i v) ≡ front v → i ≡ front v
-  unfolding front
-  front_ended h inv =
-      let none : front (drop i v) ≡ 0 = rw (drop_of_length-le v h) in
-      omega arith
-
-  -- ---- the zeros
-
-  pub zero_more : i < length v → get_or v i 0 ≡ 0 → all_zero (drop i v) ≡ all_zero (drop (i + 1) v)
-  unfolding all_zero
-  zero_more h e = rw (drop-cons v i 0, eq-eqb (get_or v i 0) 0 e, add-one)
-
-  pub zero_not : i < length v → (get_or v i 0 ≡ 0 → ⊥) → all_zero (drop i v) ≡ false
-  unfolding all_zero
-  zero_not h e = rw (drop-cons v i 0, ne_eqb (get_or v i 0) 0 e)
-
-  pub zero_ended : length v ≤ i → all_zero (drop i v) ≡ true
-  unfolding all_zero
-  zero_ended h = rw (drop_of_length-le v h)
-
--- ---- the whole rule, of a text of 16 bytes
-
-pub good_by_parts : (v : List ℕ) (n : ℕ) (z : Bool) → length v ≡ 16 → n ≡ front v → z ≡ all_zero (drop n v) → (leb 1 n && z) ≡ good_version v
-unfolding good_version
-good_by_parts v n z e p q = rw (eq-eqb (length v) 16 e, q, p)
+within_one : (b : Bool) (m n : ℕ) → m ≤ n → cond b (1 + m) 0 ≤ suc n
+within_one true m n e = omega arith
+within_one false m n e = omega arith
 
 -- the text lies within its bytes
-pub front_within : (v : List ℕ) → front v ≤ length v
-unfolding front
-front_within [] = omega arith
-front_within (b ∷ bs) = by_cases (λ (n : ℕ). n ≤ suc (length bs)) (λ _. omega (arith, front_within bs)) (λ _. omega arith)
+pub within : (bs : List ℕ) → prefix_len version_character bs ≤ length bs
+within [] = omega arith
+within (b ∷ bs) = within_one (version_character b) _ _ (within bs)
+
+pub front_within : (bs : List ℕ) → front bs ≤ length bs
+front_within bs = rw (← front_is bs) (within bs)
+
+-- the rule, where n characters stand in front of 16 bytes
+pub good_when : (bs : List ℕ) (n : ℕ) → length bs ≡ 16 → n ≡ prefix_len version_character bs → 1 ≤ n
+    → good_version bs ≡ list_all (λ b. b == 0) (drop n bs)
+unfolding good_version
+good_when bs n e f h =
+    let g : n ≡ front bs = f ∙ front_is bs in
+    rw (eq-eqb (length bs) 16 e, ← g, le-leb 1 n h, zero_is (drop n bs)) refl
+
+pub none_when : (bs : List ℕ) (n : ℕ) → length bs ≡ 16 → n ≡ prefix_len version_character bs → n < 1 → good_version bs ≡ false
+unfolding good_version
+none_when bs n e f h =
+    let g : n ≡ front bs = f ∙ front_is bs in
+    rw (eq-eqb (length bs) 16 e, ← g, lt-leb 1 n h) refl

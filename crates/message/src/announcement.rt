@@ -1,4 +1,4 @@
-// The four fields of a package as bytes: version text, then size, total and check code as WORDs.
+//! The four fields of a package as bytes: version text, then size, total and check code as WORDs.
 ghost use Rattle.std.specs.Prelude.{◌≡◌, ◌+◌, ◌≤◌, length};
 ghost use Rattle.basis.specs.Bytes.{patched};
 ghost use Rattle.message.specs.Messages.{fields_bytes, fields_at};
@@ -13,7 +13,7 @@ const TOTAL: usize = SIZE + 2;
 
 const CODE: usize = TOTAL + 2;
 
-// The fields at a place of a slice. A byte that is not there counts as 0.
+/// The fields at a place of a slice. A byte that is not there counts as 0.
 pub fn fields_at(bytes: &[u8], at: usize) -> Fields
     ensures { result ≡ fields_at bytes.now at }
 {
@@ -34,7 +34,8 @@ pub fn fields_at(bytes: &[u8], at: usize) -> Fields
     }
 }
 
-// Writes the fields into the buffer from a place on. The buffer has room for them.
+/// Writes the fields into the buffer from a place on. The buffer has room for them.
+#[tactic(auto, using(basis::proofs::Lists::patched_patched))]
 pub fn put_fields(buffer: &mut [u8], at: usize, fields: Fields)
     requires { at + 22 ≤ length buffer.old }
     ensures { buffer.new ≡ patched at (fields_bytes fields) buffer.old }

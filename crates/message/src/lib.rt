@@ -1,5 +1,4 @@
-// PCP messages: recognition, version text, and the twelve messages with what 01's table allows in them
-// (01, "Recognising a message").
+//! PCP messages: recognition, version text, and the twelve messages with what may stand in them.
 #![tactic(auto)]
 
 mod announcement;
@@ -13,11 +12,12 @@ pub use ranges::{device_valid, gateway_valid, install_code};
 pub use recognition::recognise;
 pub use version::{good_version, same_version, version_at, version_length};
 
-// The protocol version: what is written as the version byte, and what its lower four bits must be.
+/// The protocol version: what is written as the version byte, and what its lower four bits must be.
 pub const PROTOCOL_VERSION: u8 = 0x01;
 
-// The four fields of an announcement, which name a package: 01's version, size, total and code.
-#[derive(Clone, Copy)]
+/// The four fields of an announcement, which name a package: version text, fragment size, number of
+/// fragments, and check code.
+#[derive(Clone, Copy, Debug, PartialEq, Eq)]
 pub struct Fields {
     pub version: [u8; 16],
     pub size: u16,
@@ -26,50 +26,57 @@ pub struct Fields {
 }
 
 impl Fields {
-    // The bytes of a version text, and of the four fields one behind the other.
+    /// The bytes of a version text.
     pub const VERSION_LENGTH: usize = 16;
 
+    /// The bytes of the four fields, one behind the other.
     pub const LENGTH: usize = Fields::VERSION_LENGTH + 6;
 
-    // The limits of the size of a fragment, and of the number of fragments.
+    /// The least size of a fragment, in bytes.
     pub const SIZE_MIN: u16 = 32;
 
+    /// The greatest size of a fragment, in bytes.
     pub const SIZE_MAX: u16 = 1024;
 
+    /// The greatest number of fragments.
     pub const TOTAL_MAX: u16 = 65535;
 }
 
-// A message toward the device. The version text of an announcement and the data of a fragment stand
-// beside it.
-#[derive(Clone, Copy)]
-pub enum ToDevice {
-    Refused(u8),
+/// A message toward the device. It may hold any values: `device_valid` tells those that are allowed.
+// A result is a number, and no enum of those that are allowed: `device_valid` tells of any, and
+// `write_to_device` refuses the others.
+#[derive(Clone, Copy, Debug, PartialEq, Eq)]
+pub enum ToDevice<'a> {
     Query,
-    Announce { size: u16, total: u16, code: u16 },
-    Fragment { result: u8, index: u16 },
+    Announce(Fields),
+    Fragment {
+        result: u8,
+        index: u16,
+        content: &'a [u8],
+    },
     DownloadReply(u8),
     Execute,
     ResultReply(u8),
 }
 
-impl ToDevice {
-    // The least buffer of the gateway, which sends these: its longest message is a full fragment.
+impl ToDevice<'_> {
+    /// The least buffer of the gateway, which sends these: its longest message is a full fragment.
     pub const ROOM: usize = 11 + Fields::SIZE_MAX as usize;
 }
 
-// A message toward the gateway, with its version text beside it.
-#[derive(Clone, Copy)]
+/// A message toward the gateway. It may hold any values: `gateway_valid` tells those that are allowed.
+// Its results are numbers for the same reason: `gateway_valid`, `write_to_gateway`.
+#[derive(Clone, Copy, Debug, PartialEq, Eq)]
 pub enum ToGateway {
-    Refused(u8),
-    QueryReply(u8),
+    QueryReply { result: u8, version: [u8; 16] },
     AnnounceReply(u8),
-    FragmentRequest(u16),
+    FragmentRequest { version: [u8; 16], index: u16 },
     DownloadReport(u8),
     ExecuteReply(u8),
-    ResultReport(u8),
+    ResultReport { result: u8, version: [u8; 16] },
 }
 
 impl ToGateway {
-    // The least buffer of the device, which sends these: its longest message is a fragment request.
+    /// The least buffer of the device, which sends these: its longest message is a fragment request.
     pub const ROOM: usize = 8 + Fields::VERSION_LENGTH + 2;
 }

@@ -1,105 +1,121 @@
-// What 01's table allows in the fields of a message.
-ghost use Rattle.std.specs.Prelude.{◌≡◌};
+//! What may stand in the fields of a message.
+ghost use Rattle.std.specs.Prelude.{◌≡◌, ◌&&◌};
+ghost use Rattle.message.specs.Version.{good_version};
 ghost use Rattle.message.specs.Limits.{size_ok, total_ok};
 ghost use Rattle.message.specs.Messages.{DeviceMessage, GatewayMessage, fragment_ok, install_code, to_device, to_gateway};
-ghost use Rattle.message.specs.Enums.{device_message, gateway_message, valid_of};
+ghost use Rattle.message.specs.Enums.{device_message, gateway_message};
 
 use crate::version::good_version;
 use crate::{Fields, ToDevice, ToGateway};
 
-// A fragment size.
+/// A fragment size.
+#[tactic(auto, unfolding(crate::specs::Limits::size_ok))]
 fn size_ok(size: u16) -> bool
     ensures { result ≡ size_ok size }
 {
-    (Fields::SIZE_MIN <= size) & (size <= Fields::SIZE_MAX)
+    (Fields::SIZE_MIN..=Fields::SIZE_MAX).contains(&size)
 }
 
-// A number of fragments.
+/// A number of fragments.
+#[tactic(auto, unfolding(crate::specs::Limits::total_ok))]
 fn total_ok(total: u16) -> bool
     ensures { result ≡ total_ok total }
 {
-    (1 <= total) & (total <= Fields::TOTAL_MAX)
+    (1..=Fields::TOTAL_MAX).contains(&total)
 }
 
-// A code with which an install may be reported.
+/// A code with which an install may be reported.
+#[tactic(auto, unfolding(crate::specs::Messages::install_code, basis::specs::Choice::one_of))]
 pub fn install_code(res: u8) -> bool
     ensures { result ≡ install_code res }
 {
-    let codes = [0x00u8, 0x01, 0x04, 0x05, 0x09, 0x0A, 0x7F];
-    basis::one_of(res, &codes)
+    matches!(res, 0x00 | 0x01 | 0x04 | 0x05 | 0x09 | 0x0A | 0x7F)
 }
 
-// The results of the other answers and reports toward the gateway.
+/// The results of the other answers and reports toward the gateway.
+#[tactic(auto, unfolding(crate::specs::Messages::gateway_row, basis::specs::Choice::one_of))]
 fn announce_reply_ok(res: u8) -> bool
     ensures { result ≡ to_gateway.valid (GatewayMessage.announce_reply res) }
 {
-    let codes = [0x00u8, 0x01, 0x02, 0x03, 0x04, 0x05, 0x09, 0x7F];
-    basis::one_of(res, &codes)
+    matches!(res, 0x00 | 0x01 | 0x02 | 0x03 | 0x04 | 0x05 | 0x09 | 0x7F)
 }
 
+#[tactic(auto, unfolding(crate::specs::Messages::gateway_row, basis::specs::Choice::one_of))]
 fn download_report_ok(res: u8) -> bool
     ensures { result ≡ to_gateway.valid (GatewayMessage.download_report res) }
 {
-    let codes = [0x00u8, 0x05, 0x06, 0x07, 0x08];
-    basis::one_of(res, &codes)
+    matches!(res, 0x00 | 0x05 | 0x06 | 0x07 | 0x08)
 }
 
+#[tactic(auto, unfolding(crate::specs::Messages::gateway_row, basis::specs::Choice::one_of))]
 fn execute_reply_ok(res: u8) -> bool
     ensures { result ≡ to_gateway.valid (GatewayMessage.execute_reply res) }
 {
-    let codes = [0x00u8, 0x01, 0x04, 0x05, 0x09];
-    basis::one_of(res, &codes)
+    matches!(res, 0x00 | 0x01 | 0x04 | 0x05 | 0x09)
 }
 
-// What the gateway answers to a report.
+/// What the gateway answers to a report.
+#[tactic(auto, unfolding(crate::specs::Messages::device_row, basis::specs::Choice::one_of))]
 fn report_reply_ok(res: u8) -> bool
     ensures { result ≡ to_device.valid (DeviceMessage.download_reply res) }
 {
-    let codes = [0x00u8, 0x80];
-    basis::one_of(res, &codes)
+    matches!(res, 0x00 | 0x80)
 }
 
-// Fragment result 00 carries at least 1 and at most a full fragment's bytes; 80 and 81 carry none.
+/// Fragment result 00 carries at least 1 and at most a full fragment's bytes; 80 and 81 carry none.
+#[tactic(auto, unfolding(crate::specs::Messages::fragment_ok, basis::specs::Choice::one_of, basis::specs::Choice::pick))]
 fn fragment_ok(res: u8, content: &[u8]) -> bool
     ensures { result ≡ fragment_ok res content.now }
 {
-    if res == 0x00 {
-        (1 <= content.len()) & (content.len() <= Fields::SIZE_MAX as usize)
-    } else {
-        ((res == 0x80) | (res == 0x81)) & (content.len() == 0)
+    match res {
+        0x00 => 1 <= content.len() && content.len() <= usize::from(Fields::SIZE_MAX),
+        0x80 | 0x81 => content.is_empty(),
+        _ => false,
     }
 }
 
-// The fields of a message toward the device are those that the table allows; a refusal is no message.
-pub fn device_valid(message: ToDevice, version: [u8; 16], content: &[u8]) -> bool
-    ensures { result ≡ valid_of to_device (device_message message version content.now) }
+/// Version text, size and total. Any check code is allowed.
+#[tactic(auto, unfolding(crate::specs::Messages::device_row), using(crate::proofs::Allowed::word_is, basis::proofs::Choosing::and_true))]
+fn fields_ok(fields: Fields) -> bool
+    ensures { result ≡ to_device.valid (DeviceMessage.announce fields) }
 {
-    match message {
-        ToDevice::Refused(_) => false,
-        ToDevice::Query => true,
-        ToDevice::Announce {
-            size,
-            total,
-            code: _,
-        } => good_version(version) & (size_ok(size) & total_ok(total)),
-        ToDevice::Fragment { result, index: _ } => fragment_ok(result, content),
-        ToDevice::DownloadReply(result) => report_reply_ok(result),
-        ToDevice::Execute => true,
-        ToDevice::ResultReply(result) => report_reply_ok(result),
+    good_version(fields.version) && (size_ok(fields.size) && total_ok(fields.total))
+}
+
+/// The fields of a message toward the device are allowed. An index is any WORD; it is read here, so
+/// that the check knows that it is one.
+#[tactic(auto, unfolding(crate::specs::Messages::device_row))]
+pub fn device_valid(message: &ToDevice<'_>) -> bool
+    ensures { result ≡ to_device.valid (device_message message.now) }
+{
+    match *message {
+        ToDevice::Query | ToDevice::Execute => true,
+        ToDevice::Announce(fields) => fields_ok(fields),
+        ToDevice::Fragment {
+            result,
+            index: _index,
+            content,
+        } => fragment_ok(result, content),
+        ToDevice::DownloadReply(code) | ToDevice::ResultReply(code) => report_reply_ok(code),
     }
 }
 
-// The same of a message toward the gateway.
-pub fn gateway_valid(message: ToGateway, version: [u8; 16]) -> bool
-    ensures { result ≡ valid_of to_gateway (gateway_message message version) }
+/// The same of a message toward the gateway.
+#[tactic(auto, unfolding(crate::specs::Messages::gateway_row, basis::specs::Choice::one_of))]
+pub fn gateway_valid(message: &ToGateway) -> bool
+    ensures { result ≡ to_gateway.valid (gateway_message message.now) }
 {
-    match message {
-        ToGateway::Refused(_) => false,
-        ToGateway::QueryReply(result) => (result == 0x00) & good_version(version),
-        ToGateway::AnnounceReply(result) => announce_reply_ok(result),
-        ToGateway::FragmentRequest(_) => good_version(version),
-        ToGateway::DownloadReport(result) => download_report_ok(result),
-        ToGateway::ExecuteReply(result) => execute_reply_ok(result),
-        ToGateway::ResultReport(result) => install_code(result) & good_version(version),
+    match *message {
+        ToGateway::QueryReply { result, version } => result == 0x00 && good_version(version),
+        ToGateway::AnnounceReply(code) => announce_reply_ok(code),
+        ToGateway::FragmentRequest {
+            version,
+            index: _index,
+        } => good_version(version),
+        ToGateway::DownloadReport(code) => download_report_ok(code),
+        ToGateway::ExecuteReply(code) => execute_reply_ok(code),
+        ToGateway::ResultReport { result, version } => {
+            install_code(result) && good_version(version)
+        }
     }
 }

@@ -1,71 +1,59 @@
-// Version text: 1 to 16 letters, digits, underscores, hyphens and dots, then only 00.
-ghost use Rattle.std.specs.Prelude.{◌≡◌, drop};
+//! Version text: 1 to 16 letters, digits, underscores, hyphens and dots, then only 00.
+ghost use Rattle.std.specs.Prelude.{◌≡◌, ◌≤◌, ◌==◌};
+ghost use Rattle.std.specs.List.{list_all, prefix_len};
 ghost use Rattle.basis.specs.Bytes.{part, same};
-ghost use Rattle.message.specs.Version.{letter, digit, version_character, front, all_zero, good_version};
+ghost use Rattle.message.specs.Version.{version_character, front, good_version};
 
-fn letter(b: u8) -> bool
-    ensures { result ≡ letter b }
+/// A byte that version text may hold: a letter, a digit, an underscore, a hyphen or a dot.
+#[tactic(auto, unfolding(crate::specs::Version::version_character))]
+fn is_character(byte: u8) -> bool
+    ensures { result ≡ version_character byte }
 {
-    ((0x41 <= b) & (b <= 0x5A)) | ((0x61 <= b) & (b <= 0x7A))
+    matches!(byte, b'A'..=b'Z' | b'a'..=b'z' | b'0'..=b'9' | b'_' | b'-' | b'.')
 }
 
-fn digit(b: u8) -> bool
-    ensures { result ≡ digit b }
+/// How many such bytes the text starts with.
+#[tactic(auto, using(crate::proofs::Texts::within))]
+fn text_len(text: &[u8; 16]) -> usize
+    ensures text { result ≡ prefix_len version_character text.now }
+    ensures within { result ≤ 16 }
 {
-    (0x30 <= b) & (b <= 0x39)
+    text.iter().take_while(|byte| is_character(**byte)).count()
 }
 
-// A byte that version text may hold: a letter, a digit, an underscore, a hyphen or a dot.
-fn version_character(b: u8) -> bool
-    ensures { result ≡ version_character b }
+/// Only 00.
+fn all_zero(bytes: &[u8]) -> bool
+    ensures { result ≡ list_all (λ b. b == 0) bytes.now }
 {
-    letter(b) | (digit(b) | ((b == 0x5F) | ((b == 0x2D) | (b == 0x2E))))
+    bytes.iter().all(|byte| *byte == 0)
 }
 
-// How many such bytes the text starts with: how long it is without its 00.
+/// How long the text is without its 00: at most 16.
+#[tactic(auto, using(crate::proofs::Texts::front_is))]
 pub fn version_length(version: [u8; 16]) -> usize
     ensures { result ≡ front version }
 {
-    let mut i = 0;
-    while i < 16 {
-        if !version_character(version[i]) {
-            return i;
-        }
-        i += 1;
-    }
-    i
+    text_len(&version)
 }
 
-// Only 00 from a place on.
-fn zero_from(version: [u8; 16], at: usize) -> bool
-    ensures { result ≡ all_zero (drop at version) }
-{
-    let mut i = at;
-    while i < 16 {
-        if version[i] != 0 {
-            return false;
-        }
-        i += 1;
-    }
-    true
-}
-
-// The text keeps the rule.
+/// The text keeps the rule.
+#[tactic(auto, using(crate::proofs::Texts::good_when, crate::proofs::Texts::none_when))]
 pub fn good_version(version: [u8; 16]) -> bool
     ensures { result ≡ good_version version }
 {
-    let n = version_length(version);
-    (1 <= n) & zero_from(version, n)
+    let len = text_len(&version);
+    let (_, rest) = version.split_at(len);
+    1 <= len && all_zero(rest)
 }
 
-// The two texts are the same, in all of their bytes.
+/// The two texts are the same, in all of their bytes.
 pub fn same_version(a: [u8; 16], b: [u8; 16]) -> bool
     ensures { result ≡ same a b }
 {
     basis::same_bytes(&a, &b)
 }
 
-// The text at a place of a message. A byte that is not there counts as 00.
+/// The text at a place of a message. A byte that is not there counts as 00.
 pub fn version_at(message: &[u8], at: usize) -> [u8; 16]
     ensures { result ≡ part message.now at 16 }
 {

@@ -4,11 +4,11 @@ ghost use Rattle.std.specs.Prelude.{◌≡◌};
 ghost use Rattle.exports.specs.Exports.{gateway_start_of, gateway_receive_of, gateway_next_message_of};
 
 use crate::answers::{packed, text_of};
-use basis::number::{HANDLED, SHORT_RECORD};
+use basis::Refusal;
 use gateway::Gateway;
 
 // A gateway for a package.
-#[tactic(auto, unfolding(exports::specs::Exports::gateway_start_of, basis::specs::Choice::pick))]
+#[tactic(auto, unfolding(exports::specs::Exports::gateway_start_of, exports::specs::Exports::fact, basis::specs::Choice::pick))]
 #[unsafe(no_mangle)]
 pub extern "C" fn pcp_raw_gateway_start(
     bytes: &mut [u8],
@@ -21,10 +21,10 @@ pub extern "C" fn pcp_raw_gateway_start(
         ≡ gateway_start_of bytes.old version.now size content.now checked }
 {
     if bytes.len() < layout::GATEWAY_LENGTH {
-        return SHORT_RECORD;
+        return Refusal::ShortRecord.number();
     }
     let started = Gateway::start(text_of(version), size, content, checked != 0);
-    if started.number != HANDLED {
+    if started.number != 0 {
         return started.number;
     }
     layout::keep_gateway(bytes, started.gateway);
@@ -32,6 +32,7 @@ pub extern "C" fn pcp_raw_gateway_start(
 }
 
 // A message is given. The answer is the number and 256 times the length of the reply.
+#[tactic(auto, unfolding(exports::specs::Exports::gateway_receive_of, exports::specs::Exports::fact, basis::specs::Choice::pick))]
 #[unsafe(no_mangle)]
 pub extern "C" fn pcp_raw_gateway_receive(
     bytes: &mut [u8],
@@ -45,7 +46,7 @@ pub extern "C" fn pcp_raw_gateway_receive(
         ≡ gateway_receive_of bytes.old content.now reply.old supported pcp message.now }
 {
     if bytes.len() < layout::GATEWAY_LENGTH {
-        return SHORT_RECORD as u32;
+        return u32::from(Refusal::ShortRecord.number());
     }
     let gateway = layout::gateway_at(bytes);
     let answer = gateway::receive(gateway, supported != 0, pcp != 0, message, content, reply);
@@ -54,6 +55,7 @@ pub extern "C" fn pcp_raw_gateway_receive(
 }
 
 // The gateway is asked for its next message. The answer is the number and 256 times its length.
+#[tactic(auto, unfolding(exports::specs::Exports::gateway_next_message_of, exports::specs::Exports::fact, basis::specs::Choice::pick))]
 #[unsafe(no_mangle)]
 pub extern "C" fn pcp_raw_gateway_next_message(
     bytes: &[u8],
@@ -64,9 +66,11 @@ pub extern "C" fn pcp_raw_gateway_next_message(
         ≡ gateway_next_message_of bytes.now content.now reply.old }
 {
     if bytes.len() < layout::GATEWAY_LENGTH {
-        return SHORT_RECORD as u32;
+        return u32::from(Refusal::ShortRecord.number());
     }
     let gateway = layout::gateway_at(bytes);
-    let said = gateway::next_message(gateway, content, reply);
-    packed(said.number, said.length)
+    match gateway::next_message(gateway, content, reply) {
+        Ok(length) => packed(0, length),
+        Err(refusal) => packed(refusal.number(), 0),
+    }
 }

@@ -2,4 +2,3 @@ pub mod RoundTrip
 pub mod Published
 pub mod Demand2
 pub mod WrittenRead
-pub mod Said

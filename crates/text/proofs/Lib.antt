@@ -1,5 +1,6 @@
-pub mod Emitting
 pub mod Fronting
 pub mod Figures
 pub mod HexFigures
 pub mod Cases
+pub mod Pages
+pub mod Runs

@@ -1,34 +1,34 @@
-// Text into a buffer, from a place on; each function answers the place behind what it wrote. Text that
-// has no room there is not written, and the place stands.
+//! Text into a buffer. A `Writer` holds a borrowed buffer and its place, and writes piece by piece;
+//! each function here writes one text from a place on, and answers the place behind it. Text that
+//! has no room there is not written, and the place stands. The functions stay beside the writer, since
+//! they take any place, also one past the buffer.
 #![tactic(auto)]
 
 mod hex;
 pub mod laws;
+mod writer;
+mod writing;
 
 ghost use Rattle.std.specs.Prelude.{◌≡◌, ◌+◌, ◌-◌, ◌%◌, leb, length};
 ghost use Rattle.text.specs.Text.{last_five, decimal, number_text, text_at};
 ghost use Rattle.text.specs.Answers.{written};
 
 pub use hex::put_hex;
+pub use writer::{NoRoom, Writer};
 
-// So many bytes have room in a buffer of this size, from a place on.
-fn has_room(size: usize, at: usize, count: usize) -> bool
-    ensures { result ≡ leb (at + count) size }
-{
-    if size < at {
-        return false;
-    }
-    count <= size - at
-}
-
+/// Bytes as they are.
+#[tactic(auto, using(crate::proofs::Pages::places))]
 pub fn put_text(out: &mut [u8], at: usize, text: &[u8]) -> usize
     ensures { written result out.new ≡ text_at text.now out.old at }
 {
-    if !has_room(out.len(), at, text.len()) {
+    if out.len() < at {
         return at;
     }
-    basis::put(out, at, text);
-    at + text.len()
+    let mut writer = Writer::begin(out, at);
+    match writer.put(text) {
+        Ok(()) => writer.place(),
+        Err(_) => at,
+    }
 }
 
 // The last figure of a number.
@@ -39,6 +39,7 @@ fn figure(n: usize) -> u8
 }
 
 // How many of a number's five figures are zeros before it.
+#[tactic(auto, using(crate::proofs::Figures::zeros_of))]
 fn zeros(n: usize) -> usize
     ensures { result ≡ 5 - length (decimal n) }
 {
@@ -67,7 +68,8 @@ fn last_five(n: usize) -> [u8; 5]
     ]
 }
 
-// A number in decimal, with nothing behind it. Of a number from 100,000 on, its last five figures.
+/// A number in decimal, with nothing behind it. Of a number from 100,000 on, its last five figures.
+#[tactic(auto, using(crate::proofs::Figures::decimal_written))]
 pub fn put_decimal(out: &mut [u8], at: usize, n: usize) -> usize
     ensures { written result out.new ≡ text_at (decimal n) out.old at }
 {
@@ -75,7 +77,8 @@ pub fn put_decimal(out: &mut [u8], at: usize, n: usize) -> usize
     put_text(out, at, &five[zeros(n)..5])
 }
 
-// The same, and a character behind it.
+/// The same, and a character behind it.
+#[tactic(auto, using(crate::proofs::Figures::number_written))]
 pub fn put_number(out: &mut [u8], at: usize, n: usize, end: u8) -> usize
     ensures { written result out.new ≡ text_at (number_text n end) out.old at }
 {

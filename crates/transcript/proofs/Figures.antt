@@ -1,24 +1,13 @@
--- A reply as text, and the lengths of a line and its pieces. Assumes nothing.
+-- The lengths of a line and its pieces. Assumes nothing.
 use Prim.Native.Nat.{ℕ, ◌≤◌}
 use native.Mathlib.Omega.{arith}
-use mathlib.Core.Path.{◌≡◌, refl}
 use mathlib.Core.List.{List, [], ◌∷◌}
 use lib.ListN.{length, length-append}
-use Rattle.text.specs.Text.{space, newline, number_text, hex}
+use Rattle.text.specs.Text.{space, newline, number_text}
 use Rattle.text.proofs.Figures.{length_number}
 use Rattle.text.proofs.HexFigures.{length_hex}
 use Rattle.transcript.specs.Line.{reply_text, line_text}
 use Rattle.transcript.specs.Transcript.{reply_length, line_most}
-
-pub reply_none : (reply : List ℕ) → length reply ≡ 0 → reply_text reply ≡ 0x2D ∷ []
-unfolding reply_text
-reply_none [] e = refl
-reply_none (b ∷ bs) e = absurd (omega (arith, e))
-
-pub reply_hex : (reply : List ℕ) → (length reply ≡ 0 → ⊥) → reply_text reply ≡ hex reply
-unfolding reply_text
-reply_hex [] e = absurd (e refl)
-reply_hex (b ∷ bs) e = refl
 
 length_reply : (reply : List ℕ) → length reply ≤ reply_length → length (reply_text reply) ≤ 52
 unfolding reply_text

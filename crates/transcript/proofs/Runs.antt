@@ -1,119 +1,141 @@
 -- The turns of replay one after the other. Assumes nothing.
-use Prim.Native.Nat.{ℕ, suc, ◌+◌, ◌-◌, ◌*◌, ◌≤◌, ◌<◌}
-use native.Mathlib.Nat.{sub-zero}
-use native.Mathlib.Omega.{arith}
-use mathlib.Core.Path.{◌≡◌, refl, sym, ◌∙◌, ap}
-use mathlib.Core.Bool.{true, false, not}
-use mathlib.Core.List.{List, [], ◌++◌}
-use lib.ListN.{length, take, length-take}
-use borrow.Author.Tests.{not-true, not-false}
+use Rattle.std.proofs.Common.{◌≡◌, ℕ, zero, suc, ◌+◌, ◌*◌, ◌^◌, ◌<◌, ◌≤◌, refl, sym, ◌∙◌, ap, Bool, true, false, List, [], ◌∷◌, ◌++◌, length, take, arith}
+use Rattle.std.proofs.Common.{Result, Ok, Err}
+use Rattle.std.specs.Prelude.{⊤, IsErr}
+use Rattle.std.proofs.lemmas.List.{append_assoc}
+use mathlib.Core.Bool.{false≢true}
+use mathlib.Core.Path.{ap₂}
+use lib.ListN.{length-append, length-take}
 use Rattle.basis.specs.Choice.{pick}
-use Rattle.basis.proofs.Choosing.{pick_yes, pick_no}
-use Rattle.device_rules.specs.declared.Answer.{Answer}
 use Rattle.device_rules.specs.Rules.{After}
-use Rattle.device_rules.specs.Answers.{after_call}
-use Rattle.capture_rules.specs.Capture.{capture_most, Item, item_at, place_after, goes_on, header_length}
-use Rattle.capture_rules.proofs.Steps.{Past, past_record}
-use Rattle.transcript.specs.declared.Turn.{Turn}
-use Rattle.transcript.specs.Transcript.{reply_length, after, printed, text_from, line_most, out_room}
-use Rattle.transcript.specs.Answers.{Turned}
-use Rattle.text.specs.Answers.{Emitted}
-use Rattle.text.proofs.Emitting.{Remaining, whole, complete, onward}
+use Rattle.capture_rules.specs.Capture.{capture_most, Item, item_at, place_after, goes_on, part_of}
+use Rattle.capture.specs.Items.{Entry, item_then, items_from, items}
+use Rattle.capture.proofs.Items.{items_most}
+use Rattle.text.specs.declared.writer.NoRoom.{NoRoom}
+use Rattle.text.specs.declared.writer.Writer.{Writer}
+use Rattle.text.specs.Text.{newline, number_text}
+use Rattle.text.specs.Writing.{Puts}
+use Rattle.text.proofs.Runs.{ends}
+use Rattle.text.proofs.Pages.{puts_then, puts_none}
+use Rattle.transcript.specs.Transcript.{reply_length, given, line, after, printed, text_from, start, line_most, out_room}
+use Rattle.transcript.specs.Items.{settled, after_record, after_item, record_line, item_line, items_text, Prints}
 use Rattle.transcript.proofs.Figures.{length_line, length_fault}
 
--- what is printed in a turn fits in a line
-printed_fits : (number : ℕ) (item : Item) (t : After) → length t.reply ≡ reply_length → length (printed number item t) ≤ line_most
-unfolding printed
-printed_fits number (Item.found true start count) t e =
-    length_line number t.number t.device.phase (take t.length t.reply) (simp length-take (omega arith))
-printed_fits number (Item.found false start count) t e = omega arith
-printed_fits number Item.end t e = omega arith
-printed_fits number (Item.fault fault) t e = length_fault fault
+-- ---- the items' text is the capture's
 
 module _ (capture : List ℕ) where
-  abbrev all : ℕ
-  all = suc (length capture)
+  text_then : (item : Item) (number at : ℕ) (s : After) (f : ℕ → ℕ → After → List ℕ) (g : ℕ → List (Result Entry (ℕ × ℕ)))
+      → ((next : ℕ) (t : After) → f (number + 1) next t ≡ items_text (number + 1) (g next) (settled t))
+      → printed number item (after capture item s) ++ pick (goes_on item) (f (number + 1) (place_after item at) (after capture item s)) []
+      ≡ items_text number (item_then capture item at g) (settled s)
+  unfolding printed after goes_on pick items_text given
+  text_then (Item.found true start count) number at s f g e =
+      ap (λ (t : List ℕ). line number (given s (part_of capture start count)) ++ t) (e (start + count) (given s (part_of capture start count)))
+  text_then (Item.found false start count) number at s f g e = e (start + count) s
+  text_then Item.end number at s f g e = refl
+  text_then (Item.fault fault) number at s f g e = refl
 
-  -- what is left to print before a turn, and when no turn is left
-  text-on : (number at : ℕ) (s : After) → number ≤ length capture
-      → text_from capture (all - number) number at s ≡ printed number (item_at capture at) (after capture (item_at capture at) s)
-      ++ pick (goes_on (item_at capture at)) (text_from capture (all - (number + 1)) (number + 1) (place_after (item_at capture at) at)
-      (after capture (item_at capture at) s)) []
-  unfolding text_from
-  text-on number at s h =
-      let a : all - number ≡ suc (length capture - number) = omega arith in
-      let b : all - (number + 1) ≡ length capture - number = omega arith in
-      rw (a, b)
+  text_are : (most number at : ℕ) (s : After) → text_from capture most number at s ≡ items_text number (items_from capture most at) (settled s)
+  unfolding text_from items_from items_text
+  text_are zero number at s = refl
+  text_are (suc most) number at s =
+      text_then (item_at capture at) number at s (λ n next t. text_from capture most n next t) (items_from capture most)
+      (λ next t. text_are most (number + 1) next t)
 
-  text-none : (number at : ℕ) (s : After) → length capture < number → text_from capture (all - number) number at s ≡ []
-  unfolding text_from
-  text-none number at s h = let a : all - number ≡ 0 = omega arith in rw a
+  pub text_is : text_from capture (suc (length capture)) 0 0 start ≡ items_text 0 (items capture 0) start
+  unfolding start
+  text_is = text_are (suc (length capture)) 0 0 start
 
-  -- the state before a turn: so much of the text is written, behind so many records, and there is room for what a record prints
-  pub record Reached (before : List ℕ) (s₀ : After) (answer : Answer) (image map reply now : List ℕ) (at end number : ℕ) : Type 0 where
-    pub left : Remaining (text_from capture all 0 0 s₀) before 0 (text_from capture (all - number) number at (after_call answer image map reply)) now end
-    pub place : at ≤ length capture
-    pub written : header_length * end ≤ line_most * at
-    pub counted : number ≤ all
-    pub buffer : length reply ≡ reply_length
+  -- there is a line's room for each item in a buffer of the least size
+  pub room_enough : length capture ≤ capture_most → line_most * length (items capture 0) ≤ out_room
+  room_enough h = omega (arith, items_most capture)
 
-  pub begins : (before : List ℕ) (answer : Answer) (image map reply : List ℕ) → length reply ≡ reply_length
-      → Reached before (after_call answer image map reply) answer image map reply before 0 0 0
-  begins before answer image map reply e = record {
-    left = rw sub-zero (whole _ before 0);
-    place = omega arith;
-    written = omega arith;
-    counted = omega
-        arith;
-    buffer = e;
-  }
+-- ---- the loop
 
-  module _ {before : List ℕ} {s₀ : After} {answer : Answer} {image map reply now : List ℕ} {at end number : ℕ}
-      (i : Reached before s₀ answer image map reply now at end number) where
-    -- every turn was taken
-    pub over : length capture < number → Emitted (text_from capture all 0 0 s₀) before 0 now end
-    over h = complete _ before 0 (rw (text-none number at (after_call answer image map reply) h) at i.left)
+-- so much was printed, no more than a line for each item; and so many items were counted
+pub record Played (w v : Writer) (number : ℕ) (s : After) (xs all : List (Result Entry (ℕ × ℕ))) (text : List ℕ) : Type 0 where
+  pub done : List ℕ
+  pub so_far : Puts done (Ok tt) w v
+  pub parts : done ++ items_text number xs s ≡ text
+  pub short : length done ≤ line_most * number
+  pub counted : number + length xs ≡ length all
 
-    module _ (small : length capture ≤ capture_most) (fits : out_room ≤ length before) where
-      pub turn_room : end + line_most ≤ length now
-      turn_room = omega (arith, i.left.same, i.place, i.written)
+line_short : (number : ℕ) (x : Result Entry (ℕ × ℕ)) (s : After) → length (after_item x s).reply ≡ reply_length → length (item_line number x s) ≤ line_most
+line_short number (Ok e) s h = by_direction e.to_device h
+  where
+    by_direction : (d : Bool) → length (after_record d e.message s).reply ≡ reply_length → length (record_line number d e.message s) ≤ line_most
+    by_direction true h =
+        length_line number (given s e.message).number (given s e.message).device.phase (take (given s e.message).length (given s e.message).reply)
+        (simp length-take (omega arith))
+    by_direction false h = omega arith
+line_short number (Err f) s h = length_fault f.1
 
-      module _ (h : number ≤ length capture) {r : Turn} {image' map' reply' now' : List ℕ}
-          (u : Turned capture (item_at capture at) number at (after_call answer image map reply) now end r image' map' reply' now')
-          (b : length reply' ≡ reply_length) where
-        abbrev item : Item
-        item = item_at capture at
+module _ {w v u : Writer} {number : ℕ} {s : After} {xs all rest : List (Result Entry (ℕ × ℕ))} {text : List ℕ} {x : Result Entry (ℕ × ℕ)} {t : After}
+    (h : Played w v number s xs all text) (is : xs ≡ x ∷ rest) (d : t ≡ after_item x s) (r : length t.reply ≡ reply_length) where
+  pub plays : {n k : ℕ} → n ≡ number → k ≡ number + 1 → Puts (item_line n x s) (Ok tt) v u → Played w u k t rest all text
+  unfolding items_text
+  plays {n} {k} a b q =
+      let p : Puts (item_line number x s) (Ok tt) v u = rw a at q in
+      let m : length xs ≡ suc (length rest) = ap length is in
+      let l : length (item_line number x s) ≤ line_most = line_short number x s (ap (λ (a : After). length a.reply) (sym d) ∙ r) in
+      rw (d, b) (record {
+        done = h.done ++ item_line number x s;
+        so_far = puts_then h.so_far p;
+        parts = append_assoc h.done (item_line number x s) (items_text (number + 1) rest (after_item x s))
+            ∙ ap (λ (ys : List (Result Entry (ℕ × ℕ))). h.done ++ items_text number ys s) (sym is) ∙ h.parts;
+        short = omega (arith, length-append h.done (item_line number x s), l, h.short);
+        counted = omega (arith, m, h.counted);
+      })
 
-        abbrev t : After
-        t = after capture item (after_call answer image map reply)
+  pub stops : {i : ℕ} {n : NoRoom} {q : Result ⊤ NoRoom} → line_most * length all ≤ out_room → i ≡ number → Puts (item_line i x s) (Err n) v u → IsErr q
+      → Prints text q w u
+  stops {i} {n} {q} enough a p k = go q (puts_then h.so_far (rw a at p)) k
+    where
+      m : length xs ≡ suc (length rest)
+      m = ap length is
 
-        next-text : List ℕ
-        next-text = pick (goes_on item) (text_from capture (all - (number + 1)) (number + 1) (place_after item at) t) []
+      short : length (item_line number x s) ≤ line_most
+      short = line_short number x s (ap (λ (a : After). length a.reply) (sym d) ∙ r)
 
-        print-fits : length (printed number item t) ≤ line_most
-        print-fits = printed_fits number item t (ap (λ (a : After). length a.reply) (sym u.device) ∙ b)
+      go : (q : Result ⊤ NoRoom) → Puts (h.done ++ item_line number x s) (Err n) w u → IsErr q → Prints text q w u
+      go (Ok y) b k = absurd (false≢true k)
+      go (Err y) b k =
+          record {
+            written = tt;
+            full = omega (arith, enough, b.full, length-append h.done (item_line number x s), short, h.short, m, h.counted);
+            reference = b.reference;
+          }
 
-        turned : Remaining (text_from capture all 0 0 s₀) before 0 next-text now' r.end
-        unfolding next-text
-        turned =
-            onward _ before 0 (printed number item t) next-text (rw (text-on number at (after_call answer image map reply) h) at i.left)
-            (omega (arith, turn_room, print-fits)) u.text
+pub over : {w v : Writer} {number : ℕ} {s : After} {xs all : List (Result Entry (ℕ × ℕ))} {text : List ℕ} → Played w v number s xs all text → xs ≡ []
+    → Prints text (Ok tt) w v
+unfolding items_text
+over {w} {v} {number} {s} h e =
+    record {
+      written = ends (record { done = h.done; so_far = h.so_far; parts = h.parts }) (ap (λ (ys : List (Result Entry (ℕ × ℕ))). items_text number ys s) e);
+      full = tt;
+      reference = h.so_far.reference;
+    }
 
-        -- the last turn
-        pub stops : not r.more ≡ true → Emitted (text_from capture all 0 0 s₀) before 0 now' r.end
-        unfolding next-text
-        stops m = complete _ before 0 (rw (pick_no _ _ _ (sym u.more ∙ not-true r.more m)) at turned)
+pub played_none : (w : Writer) {number : ℕ} {s s₀ : After} {xs all : List (Result Entry (ℕ × ℕ))} {text : List ℕ} → number ≡ 0 → s ≡ s₀ → xs ≡ all
+    → text ≡ items_text 0 all s₀ → Played w w number s xs all text
+played_none w n d e t =
+    rw n (record {
+      done = [];
+      so_far = puts_none w tt;
+      parts = ap₂ (λ ys a. items_text 0 ys a) e d ∙ sym t;
+      short = omega arith;
+      counted = omega (arith, ap length e);
+    })
 
-        -- one record more
-        pub goes_on_lem : not r.more ≡ false → Reached before s₀ r.answer image' map' reply' now' r.at r.end (number + 1)
-        unfolding next-text
-        goes_on_lem m =
-            let y : goes_on item ≡ true = sym u.more ∙ not-false r.more m in
-            let p : Past capture at (place_after item at) = past_record capture at item refl y in
-            record {
-              left = rw (u.place, u.device) (rw (pick_yes _ _ _ y) at turned);
-              place = rw u.place p.within;
-              written = omega (arith, u.place, u.text.place, print-fits, i.written, p.past);
-              counted = omega arith;
-              buffer = b;
-            }
+-- the count fits: there are no more items than bytes, and one
+pub counted_fits : (capture : List ℕ) {number : ℕ} {xs : List (Result Entry (ℕ × ℕ))} → length capture ≤ capture_most → number ≡ 0 → xs ≡ items capture 0
+    → number + length xs < 2 ^ 64
+counted_fits capture h n e = omega (arith, h, n, ap length e, items_most capture)
+
+-- the number 21, alone
+pub prints_fault : (number : ℕ) {w v : Writer} {r : Result ⊤ NoRoom} → Puts (number_text number newline) r w v → Prints (number_text number newline) r w v
+prints_fault number {w} {v} {r} p = go r p
+  where
+    go : (r : Result ⊤ NoRoom) → Puts (number_text number newline) r w v → Prints (number_text number newline) r w v
+    go (Ok x) p = record { written = p; full = tt; reference = p.reference }
+    go (Err x) p = record { written = tt; full = omega (arith, p.full, length_fault number); reference = p.reference }

@@ -1,3 +1,3 @@
 pub mod Line
 pub mod Transcript
-pub mod Answers
+pub mod Items

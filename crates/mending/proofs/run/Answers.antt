@@ -1,42 +1,30 @@
--- `mending::run` meets its contract. The loop's invariant says what is left to write (`Underway`). Assumes nothing.
-use native.Mathlib.Omega.{arith}
-use Rattle.mending.proofs.Runs.{begins, finishes, record_room, line_room, later, again}
+use Rattle.std.proofs.Common.{◌∙◌, ap}
+use Rattle.capture.specs.declared.CaptureReader.{CaptureReader}
+use Rattle.capture.specs.Items.{pieces}
+use Rattle.capture.specs.Reader.{still}
+use Rattle.mending.proofs.Runs.{both_begin, record_goes, record_stops, stretch_goes, stretch_stops, both_end}
 use Rattle.mending.proofs.run.Goals as goal
 
-pub loop-reached-init : goal.loop-reached-init
-loop-reached-init c = begins _ _ _
+pub loop-piece-init : goal.loop-piece-init
+loop-piece-init c =
+    both_begin _ _ _ _
+    (ap still c.into_iter-piece-iterator.ensures.into_iter_gives
+    ∙ c.mending-piece-items.ensures ∙ ap (λ (r : CaptureReader). pieces r.capture.now r.at) c.new.ensures)
 
-pub step-reached-requires : goal.step-reached-requires
-step-reached-requires c = record {
-  capture_len_bound = c.requires.capture_len_bound;
-  at_in_bounds = record_room _ _ _ c.loop-reached.invariant c.loop-reached-test.true
-      c.requires.capture_in_bounds;
-  stretch_most_in_bounds = line_room _ _ _ c.loop-reached.invariant c.loop-reached-test.true
-      c.requires.capture_len_bound
-      c.requires.told_room_in_bounds;
-}
+pub loop-piece-preserved-in-Continue-1 : goal.loop-piece-preserved-in-Continue-1
+loop-piece-preserved-in-Continue-1 c = record_goes c.loop-piece.invariant (rw c.in-Ok.is at c.in-Some.ensures.steps) c.in_ok-put_record-in-Ok.ensures
 
-pub loop-reached-smaller : goal.loop-reached-smaller
-loop-reached-smaller c = omega (
-  arith,
-  c.loop-reached-test.true,
-  later _ _ _
-      c.loop-reached.invariant
-      c.loop-reached-test.true c.step-reached.ensures,
-)
+pub returns-in_err-put_record-in-Ok : goal.returns-in_err-put_record-in-Ok
+returns-in_err-put_record-in-Ok c =
+    record_stops c.loop-piece.invariant (rw c.in-Ok.is at c.in-Some.ensures.steps) c.in_err-put_record-in-Ok.ensures c.from_residual.ensures.0
 
-pub loop-reached-preserved : goal.loop-reached-preserved
-loop-reached-preserved c = again _ _ _ c.loop-reached.invariant
-    c.loop-reached-test.true c.step-reached.ensures
-    c.requires.capture_len_bound
-    c.requires.capture_in_bounds
-    c.requires.told_room_in_bounds
+pub loop-piece-preserved : goal.loop-piece-preserved
+loop-piece-preserved c = stretch_goes c.loop-piece.invariant (rw c.in-Err.is at c.in-Some.ensures.steps) c.in_ok-tell-in-Err.ensures
 
-pub shape_of-out : goal.shape_of-out
-shape_of-out c = c.loop-reached.invariant.records.same
-
-pub shape_of-told : goal.shape_of-told
-shape_of-told c = c.loop-reached.invariant.lines.same
+pub returns-in_err-tell-in-Err : goal.returns-in_err-tell-in-Err
+returns-in_err-tell-in-Err c =
+    stretch_stops c.loop-piece.invariant (rw c.in-Err.is at c.in-Some.ensures.steps) c.in_err-tell-in-Err.ensures
+    c.from_residual-in_err-tell-in-Err.ensures.0
 
 pub returns : goal.returns
-returns c = finishes _ _ _ c.loop-reached.invariant c.loop-reached-test.false
+returns c = both_end c.loop-piece.invariant c.in-None.ensures.steps.0

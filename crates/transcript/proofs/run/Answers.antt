@@ -1,89 +1,35 @@
--- `transcript::run` meets its contract. The loop's invariant says what is left to print (`Reached`), and that no buffer changed its length. Assumes nothing.
-use mathlib.Core.Path.{refl, sym, ◌∙◌}
-use native.Mathlib.Omega.{arith}
-use Rattle.transcript.proofs.Runs.{begins, over, turn_room, stops, goes_on_lem}
+use Rattle.std.proofs.Common.{◌≡◌, ◌∙◌, ap, inl}
+use Rattle.std.specs.Iterator.Adapters.{enumerate_source, enumerate_count}
+use Rattle.capture.specs.declared.CaptureReader.{CaptureReader}
+use Rattle.capture.specs.Items.{items}
+use Rattle.capture.specs.Reader.{left}
+use Rattle.transcript.proofs.Runs.{text_is, room_enough, played_none, plays, stops, over, counted_fits}
 use Rattle.transcript.proofs.run.Goals as goal
 
+none_counted : (c : goal.After-into_iter-number-iterator) → enumerate_count c.into_iter-number-iterator.result ≡ 0
+none_counted c = ap enumerate_count c.into_iter-number-iterator.ensures.into_iter_gives ∙ c.enumerate-number-items.ensures.count
+
+all_left : (c : goal.After-into_iter-number-iterator) → left (enumerate_source c.into_iter-number-iterator.result) ≡ items c.args.capture.now 0
+all_left c =
+    ap (λ r. left (enumerate_source r)) c.into_iter-number-iterator.ensures.into_iter_gives ∙ ap left c.enumerate-number-items.ensures.source
+    ∙ ap (λ (r : CaptureReader). items r.capture.now r.at) c.new.ensures
+
 pub loop-number-init : goal.loop-number-init
-loop-number-init c = (
-  begins c.args.capture.now _ _ _ _ _ c.requires.reply_len,
-  refl,
-  refl,
-)
+loop-number-init c = played_none _ (none_counted c) c.new-player.ensures (all_left c) (text_is c.args.capture.now)
 
-pub carry_out-done-requires : goal.carry_out-done-requires
-carry_out-done-requires c = record {
-  reply_len = c.loop-number.invariant.0.buffer;
-  line_most_in_bounds = turn_room c.args.capture.now
-      c.loop-number.invariant.0
-      c.requires.capture_len_bound
-      c.requires.out_room_in_bounds;
-}
-
-pub shape_of-image-then-not-done : goal.shape_of-image-then-not-done
-shape_of-image-then-not-done c = c.image-1.given
-    ∙ c.loop-number.invariant.1
-
-pub shape_of-map-then-not-done : goal.shape_of-map-then-not-done
-shape_of-map-then-not-done c = c.map-1.given
-    ∙ c.loop-number.invariant.2
-
-pub shape_of-reply-then-not-done : goal.shape_of-reply-then-not-done
-shape_of-reply-then-not-done c = c.reply-1.given
-    ∙ c.loop-number.invariant.0.buffer ∙ sym c.requires.reply_len
-
-pub shape_of-out-then-not-done : goal.shape_of-out-then-not-done
-shape_of-out-then-not-done c = c.out-1.given
-    ∙ c.loop-number.invariant.0.left.same
-
-pub returns-then-not-done : goal.returns-then-not-done
-returns-then-not-done c = stops c.args.capture.now
-    c.loop-number.invariant.0 c.requires.capture_len_bound
-    c.requires.out_room_in_bounds c.loop-number-test.true
-    c.carry_out-done.ensures
-    (c.reply-1.given
-    ∙ c.loop-number.invariant.0.buffer) c.if-not-done.true
-
-pub overflow_add-number : goal.overflow_add-number
-overflow_add-number c = record {
-  fits = omega (
-    arith,
-    c.loop-number-test.true,
-    c.requires.capture_len_bound,
-  );
-}
-
-pub loop-number-smaller : goal.loop-number-smaller
-loop-number-smaller c = omega (
-  arith,
-  c.loop-number-test.true,
-)
+pub loop-number-init-derived : goal.loop-number-init-derived
+loop-number-init-derived c = ((tt, tt, inl (counted_fits c.args.capture.now c.requires (none_counted c) (all_left c))), tt)
 
 pub loop-number-preserved : goal.loop-number-preserved
-loop-number-preserved c = (
-  goes_on_lem c.args.capture.now
-      c.loop-number.invariant.0 c.requires.capture_len_bound
-      c.requires.out_room_in_bounds c.loop-number-test.true
-      c.carry_out-done.ensures
-      (c.reply-1.given
-      ∙ c.loop-number.invariant.0.buffer) c.if-not-done.false,
-  c.image-1.given
-      ∙ c.loop-number.invariant.1,
-  c.map-1.given
-      ∙ c.loop-number.invariant.2,
-)
+loop-number-preserved c =
+    let steps = c.in-Some.ensures.steps in
+    plays c.loop-number.invariant steps.0 c.in_ok-play.ensures.device c.in_ok-play.ensures.reply steps.1 steps.2 c.in_ok-play.ensures.text
 
-pub shape_of-image : goal.shape_of-image
-shape_of-image c = c.loop-number.invariant.1
-
-pub shape_of-map : goal.shape_of-map
-shape_of-map c = c.loop-number.invariant.2
-
-pub shape_of-reply : goal.shape_of-reply
-shape_of-reply c = c.loop-number.invariant.0.buffer ∙ sym c.requires.reply_len
-
-pub shape_of-out : goal.shape_of-out
-shape_of-out c = c.loop-number.invariant.0.left.same
+pub returns-in_err-play : goal.returns-in_err-play
+returns-in_err-play c =
+    let steps = c.in-Some.ensures.steps in
+    stops c.loop-number.invariant steps.0 c.in_err-play.ensures.device c.in_err-play.ensures.reply (room_enough c.args.capture.now c.requires) steps.1
+    c.in_err-play.ensures.text c.from_residual.ensures.0
 
 pub returns : goal.returns
-returns c = over c.args.capture.now c.loop-number.invariant.0 c.loop-number-test.false
+returns c = over c.loop-number.invariant c.in-None.ensures.steps.0.0

@@ -1,15 +1,13 @@
--- `transcript::run` meets its contract. The loop's invariant says what is left to print (`Reached`), and that no buffer changed its length. Assumes nothing.
-use mathlib.Core.Path.{◌≡◌}
-use Prim.Native.Nat.{suc, ◌-◌}
-use lib.ListN.{length}
-use Rattle.device_rules.specs.Answers.{after_call}
-use Rattle.transcript.proofs.Runs.{Reached}
+use Rattle.std.proofs.Common.{suc, length}
+use Rattle.std.specs.Iterator.Adapters.{enumerate_source, enumerate_count}
+use Rattle.capture.specs.Items.{items}
+use Rattle.capture.specs.Reader.{left}
+use Rattle.transcript.specs.Transcript.{start, text_from}
+use Rattle.transcript.specs.Items.{state}
+use Rattle.transcript.proofs.Runs.{Played}
 use Rattle.transcript.proofs.run.Given as goal
 
 abbrev pub invariant-loop-number : goal.invariant-loop-number
-invariant-loop-number l = Reached l.capture l.initial.out
-    (after_call l.initial.answer l.initial.image l.initial.map l.initial.reply) l.answer l.image l.map l.reply l.out l.at l.end l.number
-    × (length l.image ≡ length l.initial.image) × (length l.map ≡ length l.initial.map)
-
-abbrev pub decreases-loop-number : goal.decreases-loop-number
-decreases-loop-number l = suc (length l.capture) - l.number
+invariant-loop-number l =
+    Played l.initial.out l.out (enumerate_count l.number-iterator) (state l.player) (left (enumerate_source l.number-iterator)) (items l.capture 0)
+    (text_from l.capture (suc (length l.capture)) 0 0 start)

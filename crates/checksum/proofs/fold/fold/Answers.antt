@@ -1,42 +1,27 @@
--- `checksum::fold::fold` meets its contract: each turn lays thirteen bytes over those that are held. Assumes nothing.
-use borrow.Author.Rules.{rules}
+-- `checksum::fold::fold` meets its contract: runs of thirteen bytes, one over the other. Assumes nothing.
+use Rattle.std.proofs.Common.{◌≡◌, ◌<◌, ◌+◌, ◌-◌, ◌*◌, ◌/◌, ◌≤◌, ◌∙◌, ℕ, List, [], ap, length, take, drop, get_or, length-take, length-drop, rules, arith}
+use Rattle.checksum.proofs.Chunks.{run_part}
 use Rattle.checksum.proofs.Words.{first, turn}
-use native.Mathlib.Omega.{arith}
 use Rattle.checksum.proofs.fold.fold.Goals as goal
 
-pub eight-requires : goal.eight-requires
-eight-requires c = omega (arith, c.requires)
+pub loop-run-init : goal.loop-run-init
+loop-run-init c = first c.args.start c.args.bytes.now c.eight.result c.eight-high.result (search rules) c.requires c.eight.ensures c.eight-high.ensures
 
-pub eight-high-requires : goal.eight-high-requires
-eight-high-requires c = omega (arith, c.requires)
-
-pub loop-at-init : goal.loop-at-init
-loop-at-init c = first c.args.start c.args.bytes.now c.eight.result c.eight-high.result
-    (search rules) c.requires c.eight.ensures c.eight-high.ensures
-
-pub overflow_sub-bytes : goal.overflow_sub-bytes
-overflow_sub-bytes c = omega (arith, c.loop-at.invariant.within)
-
-pub eight-low-requires : goal.eight-low-requires
-eight-low-requires c = omega (arith, c.loop-at.invariant.within)
-
-pub overflow_add-at : goal.overflow_add-at
-overflow_add-at c = omega (arith, c.loop-at.invariant.within)
-
-pub eight-high-requires-in-loop-at : goal.eight-high-requires-in-loop-at
-eight-high-requires-in-loop-at c = omega (arith, c.loop-at.invariant.within)
-
-pub overflow_add-at-in-loop-at : goal.overflow_add-at-in-loop-at
-overflow_add-at-in-loop-at c = omega (arith, c.loop-at.invariant.within)
-
-pub loop-at-smaller : goal.loop-at-smaller
-loop-at-smaller c = omega (arith, c.loop-at.invariant.within)
-
-pub loop-at-preserved : goal.loop-at-preserved
-loop-at-preserved c = turn c.args.start
-    c.args.bytes.now c.loop-at.low
-    c.loop-at.high c.loop-at.at c.loop-at.invariant c.eight-low.result
-    c.eight-high-in-loop-at.result c.loop-at-test.true c.eight-low.ensures c.eight-high-in-loop-at.ensures
-
-pub returns : goal.returns
-returns c = c.loop-at.invariant
+pub loop-run-preserved : goal.loop-run-preserved
+loop-run-preserved c =
+    let len : length (take (length c.args.bytes.now - 1 - 13) (drop 13 c.args.bytes.now)) ≡ length c.args.bytes.now - 1 - 13 =
+    simp (length-take, length-drop) (omega arith) in
+    let low : c.loop-run.run-index < length (take (length c.args.bytes.now - 1 - 13) (drop 13 c.args.bytes.now)) / 13 =
+    omega (arith, c.loop-run-test.true, c.as_chunks.ensures.front_len) in
+    let part : (k : ℕ) → k ≤ 5
+    → take 8 (drop k (get_or c.as_chunks.result.0.now c.loop-run.run-index [])) ≡ take 8 (drop (13 + 13 * c.loop-run.run-index + k) c.args.bytes.now) =
+    λ k h. ap (λ (rs : List (List ℕ)). take 8 (drop k (get_or rs c.loop-run.run-index []))) c.as_chunks.ensures.front
+    ∙ run_part c.args.bytes.now [] (length c.args.bytes.now - 1 - 13)
+    (length (take (length c.args.bytes.now - 1 - 13) (drop 13 c.args.bytes.now)) / 13) c.loop-run.run-index k (omega (arith, len)) low h in
+    let place : 13 + 13 * c.loop-run.run-index + 0 ≡ 13 + 13 * c.loop-run.run-index = omega arith in
+    let next : 13 + 13 * (c.loop-run.run-index + 1) ≡ 13 + 13 * c.loop-run.run-index + 13 = omega arith in
+    rw next
+    (turn c.args.start c.args.bytes.now c.loop-run.low c.loop-run.high (13 + 13 * c.loop-run.run-index) c.loop-run.invariant
+    c.eight-low.result c.eight-high-in-loop-run.result
+    (omega (arith, len, low)) (c.eight-low.ensures ∙ part 0 (omega arith) ∙ ap (λ (k : ℕ). take 8 (drop k c.args.bytes.now)) place)
+    (c.eight-high-in-loop-run.ensures ∙ part 5 (omega arith)))

@@ -1,12 +1,10 @@
--- `checksum::quads::run` meets its contract: four bytes in each turn, then those that are left. Assumes nothing.
+-- `checksum::quads::run` meets its contract: the bytes that are left take the register to the same end. Assumes nothing.
+use Rattle.std.proofs.Common.{◌≡◌, ◌<◌, ◌*◌, drop}
 use Rattle.checksum.specs.Check.{register}
-use lib.ListN.{length, drop}
-use mathlib.Core.Path.{◌≡◌}
-use Prim.Native.Nat.{◌-◌, ◌<◌, ◌≤◌}
 use Rattle.checksum.proofs.quads.run.Given as goal
 
-abbrev pub invariant-loop-i : goal.invariant-loop-i
-invariant-loop-i l = (l.i ≤ length l.bytes) × (l.r < 65536) × (register l.r (drop l.i l.bytes) ≡ register l.start l.bytes)
+abbrev pub invariant-loop-a : goal.invariant-loop-a
+invariant-loop-a l = record { fits : l.r < 65536; same : register l.r (drop (4 * l.a-index) l.bytes) ≡ register l.start l.bytes }
 
-abbrev pub decreases-loop-i : goal.decreases-loop-i
-decreases-loop-i l = length l.bytes - l.i
+abbrev pub invariant-loop-b : goal.invariant-loop-b
+invariant-loop-b l = record { fits : l.r < 65536; same : register l.r (drop l.b-index l.rest) ≡ register l.start l.bytes }

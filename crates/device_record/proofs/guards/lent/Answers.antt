@@ -1,7 +1,0 @@
--- `device_record::guards::lent` meets its contract: the chain of tests is the list of refusals. Assumes nothing.
-use Rattle.basis.specs.Choice.{refusal}
-use Rattle.device_record.proofs.guards.lent.Goals as goal
-
-pub returns : goal.returns
-unfolding refusal
-returns c = rw (c.unless-2.ensures, c.unless.ensures, c.memory_ok-held.ensures, c.record_ok-kept.ensures)

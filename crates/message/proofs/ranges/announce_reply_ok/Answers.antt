@@ -1,7 +1,0 @@
--- `message::ranges::announce_reply_ok` meets its contract: one of the list of 01. Assumes nothing.
-use Rattle.message.specs.Messages.{gateway_row}
-use Rattle.message.proofs.ranges.announce_reply_ok.Goals as goal
-
-pub returns : goal.returns
-unfolding gateway_row
-returns c = c.one_of.ensures
