@@ -39,7 +39,7 @@
 
    Building.  The library is one archive for x86-64 Linux, libpcp.a, which runs
    on processors of the level x86-64-v2 or above (SSE4.2 and all before it).  It
-   needs memcpy, memmove and memset from the C library, at most 1,950 bytes of
+   needs memcpy, memmove and memset from the C library, at most 1,650 bytes of
    stack, and no heap:
 
        cc -std=c99 -Iinclude gateway.c -Ltarget/staticlib -lpcp -o gateway

@@ -7,7 +7,7 @@ use mathlib.Core.Logic.{◌⊎◌, inl, inr}
 use mathlib.Core.List.{List, [], ◌∷◌}
 use lib.Dec.{eqb, leb}
 use borrow.Author.Tests.{leb-true, leb-false, eqb-true, eqb-false}
-use Rattle.basis.specs.Choice.{pick, refusal}
+use Rattle.basis.specs.Choice.{pick, refusal, one_of}
 
 module _ {ℓ} {A : Type ℓ} where
   pub pick_yes : (t : Bool) (a b : A) → t ≡ true → pick t a b ≡ a
@@ -96,3 +96,12 @@ by_refusal P n a b f pass p =
 abbrev pub Every : (ℕ → Type 0) → List ℕ → Type 0
 Every P [] = Unit
 Every P (n ∷ ns) = P n × Every P ns
+
+pub one_of_every : (P : ℕ → Type 0) (x : ℕ) (ns : List ℕ) → one_of x ns ≡ true → Every P ns → P x
+unfolding one_of
+one_of_every P x [] e h = absurd (false≢true e)
+one_of_every P x (n ∷ ns) e h = here (eqb x n) refl e (λ k. one_of_every P x ns k h.1)
+  where
+    here : (t : Bool) → eqb x n ≡ t → (t || one_of x ns) ≡ true → (one_of x ns ≡ true → P x) → P x
+    here true q e later = rw (eqb-true x n q) h.0
+    here false q e later = later e

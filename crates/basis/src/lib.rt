@@ -8,7 +8,7 @@ ghost use Rattle.std.specs.Prelude.{◌≡◌, ◌++◌, ◌+◌, ◌*◌, ◌�
 ghost use Rattle.basis.specs.Bytes.{word_at, word_bytes, dword_at, qword_at, part, same, patched};
 ghost use Rattle.basis.specs.Stretch.{Stretch};
 
-pub use refusal::{Refusal, answered, require};
+pub use refusal::{Numbered, Refusal, answered, require};
 
 /// The product of two WORDs.
 pub fn product(a: u16, b: u16) -> usize

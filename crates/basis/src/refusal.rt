@@ -1,5 +1,6 @@
 //! Why a message or a call is refused.
-ghost use Rattle.std.specs.Prelude.{◌≡◌, if◌then◌else◌, Ok, Err};
+ghost use Rattle.std.specs.Prelude.{◌≡◌, ℕ, if◌then◌else◌, Ok, Err};
+ghost use Rattle.basis.specs.declared.refusal.Refusal.{Refusal};
 ghost use Rattle.basis.specs.Refusals.{number_of, answered};
 
 use std::error::Error;
@@ -77,6 +78,31 @@ impl From<Refusal> for u8 {
     fn from(refusal: Refusal) -> u8 {
         refusal.number()
     }
+}
+
+/// Why there is no message: a `Refusal`, or a number alone, which may be any.
+pub trait Numbered: Copy + From<Refusal> {
+    ghost numbered: { Self → ℕ };
+
+    /// A refusal keeps its number.
+    ghost keeps: { (refusal : Refusal) (made : Self) → Self.from_gives refusal made → numbered made ≡ number_of refusal };
+}
+
+impl Numbered for Refusal {
+    ghost use Rattle.std.proofs.Common.{rules};
+    ghost use Rattle.basis.specs.Refusals.{number_of};
+
+    ghost numbered = { number_of };
+
+    ghost keeps = { Prim.search rules };
+}
+
+impl Numbered for u8 {
+    ghost use Rattle.std.proofs.Common.{rules};
+
+    ghost numbered = { λ number. number };
+
+    ghost keeps = { Prim.search rules };
 }
 
 /// The words of the C header's `pcp_reason`.

@@ -10,9 +10,13 @@ use Rattle.basis.specs.Numbers.{handled, bad_data, short_reply}
 use Rattle.codec.specs.Codec.{Sent, unsent}
 
 -- what a writer answered, with the buffer that it left: the length of the message, or the number why there is none
+abbrev pub sent_by : {E : Type 0} → (E → ℕ) → Result ℕ E → List ℕ → Sent
+sent_by number (Ok n) buffer = record { number = handled; length = n; buffer = buffer }
+sent_by number (Err refusal) buffer = unsent (number refusal) buffer
+
+-- the same of a refusal
 abbrev pub sent : Result ℕ Refusal → List ℕ → Sent
-sent (Ok n) buffer = record { number = handled; length = n; buffer = buffer }
-sent (Err refusal) buffer = unsent (number_of refusal) buffer
+sent outcome buffer = sent_by number_of outcome buffer
 
 -- a buffer with header and check put round so many bytes of data
 abbrev with_header : (code len : ℕ) → List ℕ → List ℕ

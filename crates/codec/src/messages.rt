@@ -1,12 +1,12 @@
 //! What the reader and the writer need of a message, whichever way it goes.
 ghost use Rattle.std.specs.Prelude.{◌≡◌, ◌+◌, ◌++◌, ◌≤◌, ◌<◌, ℕ, Bool, List, true, length};
 ghost use Rattle.basis.specs.Bytes.{patched};
-ghost use Rattle.message.specs.Messages.{to_device, to_gateway};
+ghost use Rattle.message.specs.Messages.{fields_bytes, to_device, to_gateway};
 ghost use Rattle.message.specs.Enums.{device_message, gateway_message};
 
 use crate::DATA;
-use basis::{put, words_of};
-use message::{ToDevice, ToGateway};
+use basis::put;
+use message::{Fields, ToDevice, ToGateway};
 
 /// A message of one receiver.
 pub(crate) trait Message: Copy {
@@ -53,6 +53,15 @@ fn put_parts(out: &mut [u8], first: &[u8], second: &[u8])
     put(out, DATA + first.len(), second);
 }
 
+/// The four fields of an announcement. They come by value, so that the prover knows how long the
+/// version text is.
+fn put_announced(out: &mut [u8], fields: Fields)
+    requires { 8 + length (fields_bytes fields) ≤ length out.old }
+    ensures { out.new ≡ patched 8 (fields_bytes fields) out.old }
+{
+    message::put_fields(out, DATA, fields)
+}
+
 impl Message for ToDevice<'_> {
     ghost use Rattle.std.specs.Prelude.{◌≡◌, ◌+◌, ◌≤◌, ◌<◌, true, length};
     ghost use Rattle.message.specs.Messages.{to_device};
@@ -86,7 +95,7 @@ impl Message for ToDevice<'_> {
     }
 
     fn is_valid(&self) -> bool {
-        message::device_valid(self)
+        ToDevice::is_valid(self)
     }
 
     #[tactic(auto, unfolding(message::specs::Messages::device_row))]
@@ -103,12 +112,7 @@ impl Message for ToDevice<'_> {
     fn put(&self, out: &mut [u8]) {
         match self {
             ToDevice::Query | ToDevice::Execute => {}
-            // As `message::put_fields` does, whose room the prover does not find for fields behind a
-            // reference.
-            ToDevice::Announce(fields) => {
-                let words = words_of(fields.size, fields.total, fields.code);
-                put_parts(out, &fields.version, &words)
-            }
+            ToDevice::Announce(fields) => put_announced(out, *fields),
             ToDevice::Fragment {
                 result,
                 index,
@@ -157,7 +161,7 @@ impl Message for ToGateway {
     }
 
     fn is_valid(&self) -> bool {
-        message::gateway_valid(self)
+        ToGateway::is_valid(self)
     }
 
     #[tactic(auto, unfolding(message::specs::Messages::gateway_row))]

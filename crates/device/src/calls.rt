@@ -6,8 +6,8 @@ ghost use Rattle.device_rules.specs.Answers.{after_call};
 ghost use Rattle.device.specs.Left.{left};
 
 use crate::sound::SoundDevice;
-use basis::{Refusal, answered, require};
-use device_record::{Device, receiving};
+use basis::{Refusal, answered};
+use device_record::{Device, asking, finishing, giving, receiving, with_digest, with_outcome};
 use device_rules::{Answer, DigestAnswer, Finished};
 
 // What a message that was given is answered with.
@@ -69,26 +69,29 @@ pub fn next_message(
 ) -> Result<usize, Refusal>
     ensures { sent result reply.new ≡ next_message_of device image.now map.now reply.old }
 {
-    require(Device::REPLY_ROOM <= reply.len(), Refusal::ShortReply)?;
-    SoundDevice::try_from(device)?.next_message(image, map, reply)
+    let Ok(sound) = SoundDevice::try_from(device) else {
+        // The guard refuses such a record, in its order: the line behind it is never reached.
+        asking(device, image, map, reply)?;
+        return Err(Refusal::BadRecord);
+    };
+    sound.next_message(image, map, reply)
 }
 
 /// The installer has ended with a code: `SoundDevice::install_finished` of a record that keeps the
 /// rules. One that breaks them is 29.
+// By the guard and the plain record, as a digest below: a device made of it for one field would test
+// the record a second time.
 #[tactic(auto, unfolding(basis::specs::Choice::pick, basis::specs::Choice::refusal, device_rules::specs::Rules::install_finished_of))]
 pub fn install_finished(device: Device, code: u8) -> Finished
     ensures { result ≡ install_finished_of device code }
 {
-    let Ok(mut sound) = SoundDevice::try_from(device) else {
-        return Finished {
-            number: Refusal::BadRecord.number(),
-            device,
-        };
+    let number = answered(finishing(device, code));
+    let device = if number == 0 {
+        with_outcome(device, code)
+    } else {
+        device
     };
-    Finished {
-        number: answered(sound.install_finished(code)),
-        device: sound.as_record(),
-    }
+    Finished { number, device }
 }
 
 /// A digest is given, which the completed bytes of the download held must have:
@@ -97,14 +100,11 @@ pub fn install_finished(device: Device, code: u8) -> Finished
 pub fn give_digest(device: Device, digest: [u8; 16]) -> DigestAnswer
     ensures { result ≡ give_digest_of device digest }
 {
-    let Ok(mut sound) = SoundDevice::try_from(device) else {
-        return DigestAnswer {
-            number: Refusal::BadRecord.number(),
-            device,
-        };
+    let number = answered(giving(device));
+    let device = if number == 0 {
+        with_digest(device, digest)
+    } else {
+        device
     };
-    DigestAnswer {
-        number: answered(sound.give_digest(digest)),
-        device: sound.as_record(),
-    }
+    DigestAnswer { number, device }
 }

@@ -11,11 +11,11 @@ use message::ToGateway;
 
 // A message that the table allows, put to the front of a reply buffer, which has room for every
 // one.
-#[tactic(auto, using(crate::proofs::Says::written_said))]
+#[tactic(auto, using(crate::proofs::Says::written_said), unfolding(codec::specs::Codec::spoken))]
 pub(crate) fn say(message: ToGateway, reply: &mut [u8]) -> Result<usize, Refusal>
     requires room { device_room ≤ length reply.old }
     requires valid { to_gateway.valid (gateway_message message) ≡ true }
     ensures { sent result reply.new ≡ said to_gateway (found (gateway_message message)) reply.old }
 {
-    codec::write_to_gateway(&message, reply)
+    codec::say_to_gateway(Ok(message), reply)
 }

@@ -74,7 +74,8 @@ impl SoundDevice {
 
     /// The phase.
     pub fn phase(&self) -> Phase
-        ensures { code_of result ≡ self.now.phase }
+        ensures code { code_of result ≡ self.now.phase }
+        ensures sound { record_ok self.now ≡ true }
     {
         self.phase
     }

@@ -10,7 +10,7 @@ ghost use Rattle.device.specs.Left.{as_held, refused_state, left, finished_by, g
 use crate::messages::say;
 use crate::sound::SoundDevice;
 use basis::{Refusal, require};
-use device_record::{Condition, Device, Phase, finishing, giving, memory_ok};
+use device_record::{Condition, Device, Phase, memory_ok};
 use message::{ToDevice, ToGateway};
 
 impl SoundDevice {
@@ -120,7 +120,8 @@ impl SoundDevice {
         ensures rule { finished_by result self.new ≡ install_finished_of self.old code }
         ensures err { OnErr result (self.new ≡ self.old) }
     {
-        finishing(self.as_record(), code)?;
+        require(self.phase() == Phase::Installing, Refusal::NoUse)?;
+        require(message::install_code(code), Refusal::BadInstallCode)?;
         self.report(code);
         Ok(())
     }
@@ -132,7 +133,7 @@ impl SoundDevice {
         ensures rule { given_by result self.new ≡ give_digest_of self.old digest }
         ensures err { OnErr result (self.new ≡ self.old) }
     {
-        giving(self.as_record())?;
+        require(self.phase() == Phase::Loading, Refusal::NoUse)?;
         self.expect(digest);
         Ok(())
     }

@@ -41,7 +41,7 @@ pub fn announce_result(
     if condition != 0 {
         return condition;
     }
-    if fields.version == device.running {
+    if message::same_version(fields.version, device.running) {
         return 0x03;
     }
     if image.len() < product(fields.size, fields.total) {
@@ -98,7 +98,7 @@ fn repeat_refusal(fields: Fields, last: u16, index: u16, image: &[u8], content: 
 {
     let length = by_index(fields, index, last, fields.size);
     let stored = part_of(image, product(index, fields.size), usize::from(length));
-    if content == stored {
+    if basis::same_bytes(content, stored) {
         Refusal::AlreadyStored
     } else {
         Refusal::RepeatDiffers

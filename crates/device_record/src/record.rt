@@ -120,7 +120,10 @@ fn download_ok(device: Device) -> bool
 }
 
 /// Whether the record keeps the rules.
+// Called, and not laid into each call of the device: there the record is copied twice more, which takes
+// twice the stack.
 #[tactic(auto, unfolding(crate::specs::Record::record_ok, basis::specs::Choice::pick))]
+#[inline(never)]
 pub fn record_ok(device: Device) -> bool
     ensures { result ≡ record_ok device }
 {

@@ -10,3 +10,4 @@ pub mod Cases
 pub mod Accepted
 pub mod Tested
 pub mod DecisionCases
+pub mod Leading

@@ -5,3 +5,4 @@ pub mod Answers
 pub mod Inner
 pub mod Cases
 pub mod RefusedMaking
+pub mod Leading

@@ -6,6 +6,7 @@
 
 ghost use Rattle.device_rules.specs.Cases.{DeviceCases};
 ghost use Rattle.device_rules.specs.DecisionCases.{DecisionCases};
+ghost use Rattle.device_rules.specs.Leading.{CodesLead};
 ghost use Rattle.device_rules.specs.RefusedMaking.{RefusedMaking};
 
 use device_record::Device;
@@ -49,4 +50,9 @@ pub fn decision_cases_hold()
 /// nothing; the installer's end and a digest are answered 29.
 pub fn refused_making_is_unusable()
     ensures { RefusedMaking }
+{}
+
+/// What is read from bytes is led by the code in them: to the rule of that code, and to no other.
+pub fn codes_lead_to_their_rules()
+    ensures { CodesLead }
 {}

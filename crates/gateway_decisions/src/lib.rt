@@ -12,11 +12,10 @@ use gateway_record::{Ending, Gateway, ended_with, in_phase};
 use message::Fields;
 
 /// The version is the target's, in all of its bytes.
-#[tactic(auto, using(basis::proofs::Alike::same_is))]
 pub fn is_target(fields: Fields, version: [u8; 16]) -> bool
     ensures { result ≡ same version fields.version }
 {
-    version == fields.version
+    message::same_version(version, fields.version)
 }
 
 /// An answered query in Ask: the target already runs, which ends with 1, else Offer.

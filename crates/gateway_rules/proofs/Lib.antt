@@ -4,3 +4,4 @@ pub mod Answered
 pub mod Cases
 pub mod Served
 pub mod DecisionCases
+pub mod Leading

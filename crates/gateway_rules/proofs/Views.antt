@@ -3,12 +3,13 @@
 use Prim.Native.Nat.{ℕ, ◌<◌}
 use native.Mathlib.Omega.{arith}
 use mathlib.Core.Path.{◌≡◌, refl, ap, ap₂}
-use mathlib.Core.Bool.{Bool}
+use mathlib.Core.Bool.{Bool, true}
 use mathlib.Core.List.{List}
 use mathlib.Core.Logic.{◌⊎◌}
 use lib.Dec.{eqb}
 use lib.ListN.{length}
 use borrow.Author.Tests.{eqb-true, eq-eqb}
+use Rattle.basis.specs.Choice.{pick}
 use Rattle.basis.specs.Bytes.{same, over}
 use Rattle.basis.proofs.Choosing.{by_cases, pick_yes, and_left, and_right}
 use Rattle.basis.proofs.Lists.{same_true}
@@ -17,8 +18,8 @@ use Rattle.message.specs.Messages.{fragment_request, download_report, execute_re
 use Rattle.codec.specs.Codec.{bytes_of, read_of, said}
 use Rattle.gateway_record.specs.declared.Gateway.{Gateway}
 use Rattle.gateway_record.specs.Record.{ask, offer, serve, run, fragment_of, in_phase, ended_with}
-use Rattle.gateway_rules.specs.Decisions.{after_query, install_ending}
-use Rattle.gateway_rules.proofs.Served.{given_tells}
+use Rattle.gateway_rules.specs.Decisions.{after_query, serving, install_ending}
+use Rattle.gateway_rules.proofs.Served.{given, given_tells}
 use Rattle.gateway_rules.specs.Rules.{After, fragment_reply, refuse, on_query_reply, on_announce_reply, on_fragment_request, on_download_report}
 use Rattle.gateway_rules.specs.Rules.{on_execute_reply, on_result_report, handle, receive_of, wanted, next_message_of}
 
@@ -62,6 +63,13 @@ module _ (g : Gateway) (content : List ℕ) where
   served-or-not version index z =
       let (phase, below) = given_tells g.phase g.fields version index z in
       record { phase = phase; below = below; stretch = pick_yes _ _ _ (eq-eqb _ _ z) }
+
+  -- a request in Serve or Run, with the target's version and an index below the total, is answered with its fragment
+  pub serves_fragment : (version : List ℕ) (index : ℕ) → serving g.phase ≡ true → same version g.fields.version ≡ true
+      → index < g.fields.total
+      → fragment_reply g content version index ≡ fragment 0x00 index (fragment_of content g.fields.size index)
+  unfolding fragment_reply pick
+  serves_fragment version index s v l = rw (given g.phase g.fields version index s v l)
 
   module _ (reply : List ℕ) where
     refuses : (heard : Reading GatewayMessage) (n : ℕ) → Step reply heard (refuse g content reply n)

@@ -4,3 +4,4 @@ pub mod Rules
 pub mod Answers
 pub mod Cases
 pub mod RefusedStart
+pub mod Leading

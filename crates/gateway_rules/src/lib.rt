@@ -4,6 +4,7 @@
 
 ghost use Rattle.gateway_rules.specs.Cases.{GatewayCases};
 ghost use Rattle.gateway_rules.specs.DecisionCases.{GatewayDecisionCases};
+ghost use Rattle.gateway_rules.specs.Leading.{CodesLead};
 ghost use Rattle.gateway_rules.specs.RefusedStart.{RefusedStart};
 
 use gateway_record::Gateway;
@@ -34,4 +35,9 @@ pub fn gateway_decision_cases_hold()
 /// nothing.
 pub fn refused_start_is_unusable()
     ensures { RefusedStart }
+{}
+
+/// What is read from bytes is led by the code in them: to the rule of that code, and to no other.
+pub fn codes_lead_to_their_rules()
+    ensures { CodesLead }
 {}

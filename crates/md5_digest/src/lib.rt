@@ -30,13 +30,25 @@ const START: Words = Words {
     d: 0x10325476,
 };
 
-// The table by value, to be lent down from the stack: from a `static` the compiler takes the numbers into
-// the code, which is 18 per cent slower at 8 MiB.
+// The table by value, laid out on the stack once for each call that needs it, and lent from there on.
+// Were every table lent from a `static`, the compiler would take the numbers into the code, which is
+// 18 per cent slower at 8 MiB.
 #[tactic(auto, unfolding(md5_rules::specs::Md5::sines))]
 fn sines() -> [u32; 64]
     ensures { result ≡ sines }
 {
     SINES
+}
+
+static TABLE: [u32; 64] = SINES;
+
+// The same table where it lies, for a digest with no state between: that is taken deepest in a device's
+// call, and so lays no copy on the stack.
+#[tactic(auto, unfolding(md5_rules::specs::Md5::sines))]
+fn table() -> &'static [u32; 64]
+    ensures { result.now ≡ sines }
+{
+    &TABLE
 }
 
 /// The digest of bytes that come in pieces: methods for the state, whose struct is of md5_rules.
@@ -67,11 +79,12 @@ impl Hasher for Md5 {
         if piece.len() < room {
             return store(self, piece);
         }
+        let table = sines();
         if room == 64 {
-            return take(self, piece);
+            return take(self, &table, piece);
         }
-        fill(self, &piece[..room]);
-        take(self, &piece[room..])
+        fill(self, &table, &piece[..room]);
+        take(self, &table, &piece[room..])
     }
 
     #[tactic(auto, using(md5_rules::proofs::Closing::finish_closed))]
@@ -100,28 +113,30 @@ fn store(state: &mut Md5, bytes: &[u8])
 
 // Stores the bytes that make the block whole.
 #[tactic(auto, using(md5_rules::proofs::Feeding::filled_is))]
-fn fill(state: &mut Md5, bytes: &[u8])
-    requires { state.old.count % 64 + length bytes.now ≡ 64 }
+fn fill(state: &mut Md5, table: &[u32; 64], bytes: &[u8])
+    requires table { table.now ≡ sines }
+    requires whole { state.old.count % 64 + length bytes.now ≡ 64 }
     ensures { state.new ≡ feed_of state.old bytes.now }
 {
     let at = (state.count % 64) as usize;
     basis::put(&mut state.block, at, bytes);
-    state.words = blocks(&sines(), state.words, &state.block);
+    state.words = blocks(table, state.words, &state.block);
     state.count = state.count.wrapping_add(bytes.len() as u64);
     state.block = [0; 64];
 }
 
 // Any bytes, where none waits: whole blocks from where they lie, and the rest is stored.
 #[tactic(auto, using(crate::proofs::Low::taken))]
-fn take(state: &mut Md5, bytes: &[u8])
-    requires { state.old.count % 64 ≡ 0 }
+fn take(state: &mut Md5, table: &[u32; 64], bytes: &[u8])
+    requires table { table.now ≡ sines }
+    requires none { state.old.count % 64 ≡ 0 }
     ensures { state.new ≡ feed_of state.old bytes.now }
 {
     if bytes.len() < 64 {
         return store(state, bytes);
     }
     let (front, rest) = bytes.split_at(bytes.len() - bytes.len() % 64);
-    state.words = blocks(&sines(), state.words, front);
+    state.words = blocks(table, state.words, front);
     state.count = state.count.wrapping_add(front.len() as u64);
     state.block = [0; 64];
     store(state, rest)
@@ -191,7 +206,6 @@ pub fn digest(bytes: &[u8]) -> [u8; 16]
     ensures { result ≡ md5_of bytes.now }
 {
     let end = bytes.len() - bytes.len() % 64;
-    let table = sines();
-    let w = blocks(&table, START, bytes);
-    closed(&table, w, &bytes[end..], bytes.len() as u64)
+    let w = blocks(table(), START, bytes);
+    closed(table(), w, &bytes[end..], bytes.len() as u64)
 }

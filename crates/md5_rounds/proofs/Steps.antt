@@ -1,12 +1,12 @@
 -- Laws of the rounds: a step's sum in another order, the second round's function as a sum, and blocks by what is left of the bytes. Assumes
 -- nothing.
 use Rattle.std.proofs.Common.{◌≡◌, ℕ, zero, suc, ◌+◌, ◌-◌, ◌*◌, ◌/◌, ◌%◌, ◌^◌, ◌<◌, ◌≤◌, min}
-use Rattle.std.proofs.Common.{List, ◌++◌, length, take, drop, ap, sym, ◌∙◌, ap₂, arith, length-append}
+use Rattle.std.proofs.Common.{List, [], ◌∷◌, ◌++◌, length, take, drop, refl, ap, sym, ◌∙◌, ap₂, arith, length-append}
 use Rattle.std.proofs.Math.Seq.{take-append_seam, drop-append_seam}
 use Rattle.std.specs.Int.{w32, rotate_left}
 use lib.Bits.{bit_and, bit_or, and_step, and_zero_r, and_le_r, and_mod, and_shr, or_disjoint}
 use Rattle.md5_rules.specs.declared.Words.{Words}
-use Rattle.md5_rules.specs.Md5.{◌⊕◌, ◌⋘◌, complement, mix_g, step, compressed, blocks}
+use Rattle.md5_rules.specs.Md5.{◌⊕◌, ◌⋘◌, complement, mix_g, sine, block_word, step, steps, compressed, blocks}
 use Rattle.md5_rounds.specs.Rows.{Turn}
 
 -- what waits for the step before is added last
@@ -51,6 +51,13 @@ mix_g_sum b c d h =
     let e = or_disjoint (bit_and b d) (bit_and c (complement d)) (disjoint 32 b c d h) in
     let turned : bit_and c (complement d) + bit_and b d ≡ bit_and b d + bit_and c (complement d) = omega arith in
     turned ∙ sym e
+
+-- rows of steps one behind the other
+module _ (mix : ℕ → ℕ → ℕ → ℕ) (block : List ℕ) where
+  pub steps_append : (w : Words) (xs ys : List (ℕ × ℕ × ℕ)) → steps mix block w (xs ++ ys) ≡ steps mix block (steps mix block w xs) ys
+  unfolding steps
+  steps_append w [] ys = refl
+  steps_append w (x ∷ xs) ys = steps_append (step mix w (block_word block x.0) x.1 (sine x.2)) xs ys
 
 -- a block more, of what is left
 pub blocks_turn : (w : Words) (rest block next : List ℕ) → rest ≡ block ++ next → length block ≡ 64

@@ -1,7 +1,7 @@
 //! The four rounds of MD5 over a block (RFC 1321, section 3.4), and over as many blocks as there are.
-//! The table of constants is lent down by the caller, from its stack: so the compiler adds each from
-//! memory, before the round's function is known. From a `static` it takes the numbers into the code,
-//! which is 18 per cent slower at 8 MiB.
+//! The table of constants is lent down by the caller, and not by every one from the same `static`: so the
+//! compiler adds each from memory, before the round's function is known. Else it takes the numbers into
+//! the code, which is 18 per cent slower at 8 MiB.
 #![tactic(auto)]
 
 ghost use Rattle.std.specs.Prelude.{◌≡◌, ℕ, ◌+◌, ◌*◌, ◌/◌, ◌%◌, ◌<◌, ◌≤◌, List, [], ◌∷◌, length, slice_index};

@@ -12,7 +12,7 @@ use lib.ListN.{drop_of_length-le}
 use lib.Seq.{set_split, take-suc-set, take_all}
 use borrow.Author.Tests.{eq-eqb, ne_eqb}
 use Rattle.basis.specs.Choice.{pick}
-use Rattle.basis.specs.Bytes.{patched}
+use Rattle.basis.specs.Bytes.{Bytes, patched}
 use Rattle.basis.proofs.Choosing.{pick_yes, pick_no}
 use Rattle.basis.proofs.Lists.{patched_patched, rest_is}
 use Rattle.md5_rules.specs.declared.Words.{Words}
@@ -273,3 +273,24 @@ any_cut = record { any_cut = λ pieces. ap finish_of (fed_pieces_lem new_of piec
 pub digest_length : (m : List ℕ) → length (md5_of m) ≡ 16
 unfolding md5_of digest_of
 digest_length m = refl
+
+no_bytes : Bytes []
+unfolding Bytes
+no_bytes i = omega arith
+
+low_bytes : (k n : ℕ) (rest : List ℕ) → Bytes rest → Bytes (low_first k n ++ rest)
+unfolding Bytes
+low_bytes zero n rest h i = h i
+low_bytes (suc k) n rest h zero = omega arith
+low_bytes (suc k) n rest h (suc i) = low_bytes k (n / 256) rest h i
+
+pub digest_bytes : (m : List ℕ) → Bytes (md5_of m)
+unfolding md5_of digest_of
+digest_bytes m = sixteen (blocks (length (padded m) / 64) start_words (padded m))
+  where
+    sixteen : (w : Words) → Bytes (digest_of w)
+    sixteen w =
+        let d : List ℕ = low_first 4 w.d in
+        let c : List ℕ = low_first 4 w.c ++ d in
+        let b : List ℕ = low_first 4 w.b ++ c in
+        low_bytes 4 w.a b (low_bytes 4 w.b c (low_bytes 4 w.c d (low_bytes 4 w.d [] no_bytes)))

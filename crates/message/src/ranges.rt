@@ -3,10 +3,11 @@ ghost use Rattle.std.specs.Prelude.{◌≡◌, ◌&&◌};
 ghost use Rattle.message.specs.Version.{good_version};
 ghost use Rattle.message.specs.Limits.{size_ok, total_ok};
 ghost use Rattle.message.specs.Messages.{DeviceMessage, GatewayMessage, fragment_ok, install_code, to_device, to_gateway};
-ghost use Rattle.message.specs.Enums.{device_message, gateway_message};
+ghost use Rattle.message.specs.Enums.{device_message, gateway_message, reading_by, valid_of};
 
 use crate::version::good_version;
 use crate::{Fields, ToDevice, ToGateway};
+use basis::Numbered;
 
 /// A fragment size.
 #[tactic(auto, unfolding(crate::specs::Limits::size_ok))]
@@ -82,40 +83,63 @@ fn fields_ok(fields: Fields) -> bool
     good_version(fields.version) && (size_ok(fields.size) && total_ok(fields.total))
 }
 
-/// The fields of a message toward the device are allowed. An index is any WORD; it is read here, so
-/// that the check knows that it is one.
-#[tactic(auto, unfolding(crate::specs::Messages::device_row))]
-pub fn device_valid(message: &ToDevice<'_>) -> bool
-    ensures { result ≡ to_device.valid (device_message message.now) }
-{
-    match *message {
-        ToDevice::Query | ToDevice::Execute => true,
-        ToDevice::Announce(fields) => fields_ok(fields),
-        ToDevice::Fragment {
-            result,
-            index: _index,
-            content,
-        } => fragment_ok(result, content),
-        ToDevice::DownloadReply(code) | ToDevice::ResultReply(code) => report_reply_ok(code),
+impl ToDevice<'_> {
+    /// Its fields are allowed. An index is any WORD; it is read here, so that the check knows that it
+    /// is one.
+    #[tactic(auto, unfolding(crate::specs::Messages::device_row))]
+    pub fn is_valid(&self) -> bool
+        ensures { result ≡ to_device.valid (device_message self.now) }
+    {
+        match *self {
+            ToDevice::Query | ToDevice::Execute => true,
+            ToDevice::Announce(fields) => fields_ok(fields),
+            ToDevice::Fragment {
+                result,
+                index: _index,
+                content,
+            } => fragment_ok(result, content),
+            ToDevice::DownloadReply(code) | ToDevice::ResultReply(code) => report_reply_ok(code),
+        }
     }
 }
 
-/// The same of a message toward the gateway.
-#[tactic(auto, unfolding(crate::specs::Messages::gateway_row, basis::specs::Choice::one_of))]
-pub fn gateway_valid(message: &ToGateway) -> bool
-    ensures { result ≡ to_gateway.valid (gateway_message message.now) }
-{
-    match *message {
-        ToGateway::QueryReply { result, version } => result == 0x00 && good_version(version),
-        ToGateway::AnnounceReply(code) => announce_reply_ok(code),
-        ToGateway::FragmentRequest {
-            version,
-            index: _index,
-        } => good_version(version),
-        ToGateway::DownloadReport(code) => download_report_ok(code),
-        ToGateway::ExecuteReply(code) => execute_reply_ok(code),
-        ToGateway::ResultReport { result, version } => {
-            install_code(result) && good_version(version)
+impl ToGateway {
+    /// Its fields are allowed.
+    #[tactic(auto, unfolding(crate::specs::Messages::gateway_row, basis::specs::Choice::one_of))]
+    pub fn is_valid(&self) -> bool
+        ensures { result ≡ to_gateway.valid (gateway_message self.now) }
+    {
+        match *self {
+            ToGateway::QueryReply { result, version } => result == 0x00 && good_version(version),
+            ToGateway::AnnounceReply(code) => announce_reply_ok(code),
+            ToGateway::FragmentRequest {
+                version,
+                index: _index,
+            } => good_version(version),
+            ToGateway::DownloadReport(code) => download_report_ok(code),
+            ToGateway::ExecuteReply(code) => execute_reply_ok(code),
+            ToGateway::ResultReport { result, version } => {
+                install_code(result) && good_version(version)
+            }
         }
     }
+}
+
+/// There is a message toward the device, and its fields are allowed. A refusal is none, whatever its
+/// number.
+pub fn device_valid<E: Numbered>(message: &Result<ToDevice<'_>, E>) -> bool
+    ensures { result ≡ valid_of to_device (reading_by device_message E.numbered message.now) }
+{
+    message
+        .as_ref()
+        .is_ok_and(|message| ToDevice::is_valid(message))
+}
+
+/// The same of a message toward the gateway.
+pub fn gateway_valid<E: Numbered>(message: &Result<ToGateway, E>) -> bool
+    ensures { result ≡ valid_of to_gateway (reading_by gateway_message E.numbered message.now) }
+{
+    message
+        .as_ref()
+        .is_ok_and(|message| ToGateway::is_valid(message))
 }

@@ -9,7 +9,10 @@ ghost use Rattle.message.specs.Version.{version_character, front, good_version};
 fn is_character(byte: u8) -> bool
     ensures { result ≡ version_character byte }
 {
-    matches!(byte, b'A'..=b'Z' | b'a'..=b'z' | b'0'..=b'9' | b'_' | b'-' | b'.')
+    // Joined by `|` in this order: one `matches!` of all, or a row of `|`, makes a text of 16 letters
+    // up to three times as dear.
+    (matches!(byte, b'A'..=b'Z') | matches!(byte, b'a'..=b'z'))
+        | (matches!(byte, b'0'..=b'9') | ((byte == b'_') | ((byte == b'-') | (byte == b'.'))))
 }
 
 /// How many such bytes the text starts with.
@@ -36,21 +39,30 @@ pub fn version_length(version: [u8; 16]) -> usize
     text_len(&version)
 }
 
-/// The text keeps the rule.
+// The text keeps the rule. It is lent, so that a record's test copies none.
 #[tactic(auto, using(crate::proofs::Texts::good_when, crate::proofs::Texts::none_when))]
-pub fn good_version(version: [u8; 16]) -> bool
-    ensures { result ≡ good_version version }
+fn good_text(version: &[u8; 16]) -> bool
+    ensures { result ≡ good_version version.now }
 {
-    let len = text_len(&version);
+    let len = text_len(version);
     let (_, rest) = version.split_at(len);
     1 <= len && all_zero(rest)
 }
 
+/// The text keeps the rule.
+#[inline(always)]
+pub fn good_version(version: [u8; 16]) -> bool
+    ensures { result ≡ good_version version }
+{
+    good_text(&version)
+}
+
 /// The two texts are the same, in all of their bytes.
+#[tactic(auto, using(basis::proofs::Alike::same_is))]
 pub fn same_version(a: [u8; 16], b: [u8; 16]) -> bool
     ensures { result ≡ same a b }
 {
-    basis::same_bytes(&a, &b)
+    a == b
 }
 
 /// The text at a place of a message. A byte that is not there counts as 00.

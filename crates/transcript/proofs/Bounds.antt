@@ -33,3 +33,7 @@ enough capture (suc most) more number at s h =
     (same_if (goes_on (item_at capture at)) (λ t. let p : Past capture at (place_after (item_at capture at) at) = past_record capture at
     (item_at capture at) refl t in
     enough capture most more (number + 1) (place_after (item_at capture at) at) (after capture (item_at capture at) s) (omega (arith, p.past)))))
+
+pub turns_enough : (capture : List ℕ) (more : ℕ) (s : After) → text_from capture (suc (length capture) + more) 0 0 s
+    ≡ text_from capture (suc (length capture)) 0 0 s
+turns_enough capture more s = enough capture (suc (length capture)) more 0 0 s (omega arith)

@@ -1,7 +1,7 @@
--- `message::device_valid` meets its contract. Assumes nothing.
+-- `ToDevice::is_valid` meets its contract. Assumes nothing.
 use Rattle.std.proofs.Common.{rules, ◌∙◌}
 use Rattle.message.proofs.Allowed.{fragment_allowed}
-use Rattle.message.proofs.ranges.device_valid.Goals as goal
+use Rattle.message.proofs.ToDevice.is_valid.Goals as goal
 
 pub returns-in-Announce : goal.returns-in-Announce
 returns-in-Announce c = rw c.in-Announce.is c.fields_ok.ensures
